@@ -1,0 +1,137 @@
+-- Laws of decoding: what is decoded is in its ranges, and decoding and encoding undo each other.
+use Prim.Native.Nat.{ℕ, zero, suc, _+_, _*_, _/_, _%_, _<_, _≤_}
+use mathlib.Core.Path.{_≡_, refl, sym, ap, _∙_}
+use mathlib.Core.Bool.{Bool, true, false, cond}
+use native.Mathlib.Omega.{arith}
+use lib.Dec.{ltb, leb, eqb}
+use borrow.Author.Tests.{lt-ltb, le-ltb, le-leb, lt-leb, eq-eqb, ne-eqb, ltb-true, ltb-false, leb-true, leb-false, eqb-true, eqb-false}
+use Rattle.frame.specs.declared.Refusal.{Refusal}
+use Rattle.frame.specs.Frame.{objectFits, actionOf, decodeParts, decodeWord, wordOf, encodeParts, encodeFrame, ObjectInRange, InRange}
+use Rattle.frame.specs.Refusal.{refusalNumber}
+use Rattle.frame.specs.declared.Frame.{Frame}
+use Rattle.frame.specs.declared.Action.{Action}
+use Rattle.frame.specs.declared.Action.the-variants.{Acquire, Release, Read, Write, Begin, End}
+use Rattle.frame.specs.declared.Refusal.the-variants as refusal
+use Rattle.frame.specs.declared.Decoded.{Decoded}
+use Rattle.frame.specs.declared.Decoded.the-variants as decoded
+
+never : {A : Type 0} → _≡_ {A = ℕ} 0 1 → A
+never z = absurd (omega arith)
+
+-- what a decoded frame shows of the parts of its word
+pub record Shown (op t o : ℕ) (f : Frame) : Type 0 where
+  pub low : 1 ≤ op
+  pub high : op ≤ 6
+  pub thread : t ≤ 31
+  pub object : objectFits op o ≡ true
+  pub frame : f ≡ record { thread = record { 0 = t }; action = actionOf op o }
+
+same-frame : (f g : Frame) → decoded.Frame f ≡ decoded.Frame g → g ≡ f
+same-frame f g e = cc
+
+pub shown : (op t o : ℕ) (f : Frame) → decodeParts op t o ≡ decoded.Frame f → Shown op t o f
+unfolding decodeParts
+shown op t o f e = go (ltb op 1) refl (ltb 6 op) refl (ltb 31 t) refl (objectFits op o) refl
+  where
+    go : (a : Bool) → ltb op 1 ≡ a → (b : Bool) → ltb 6 op ≡ b → (d : Bool) → ltb 31 t ≡ d → (g : Bool) → objectFits op o ≡ g → Shown op t o f
+    go true p b q d r g u = let z : decoded.Bad refusal.Operation ≡ decoded.Frame f = rw p at e in never (cc)
+    go false p true q d r g u = let z : decoded.Bad refusal.Operation ≡ decoded.Frame f = rw (p, q) at e in never (cc)
+    go false p false q true r g u = let z : decoded.Bad refusal.Thread ≡ decoded.Frame f = rw (p, q, r) at e in never (cc)
+    go false p false q false r false u = let z : decoded.Bad refusal.Object ≡ decoded.Frame f = rw (p, q, r, u) at e in never (cc)
+    go false p false q false r true u = record {
+      low = ltb-false op 1 p;
+      high = ltb-false 6 op q;
+      thread = ltb-false 31 t r;
+      object = u;
+      frame = same-frame _ _ (rw (p, q, r, u) at e);
+    }
+
+-- the six operations
+pub data Operation : ℕ → Type 0 where
+  acquire : Operation 1
+  release : Operation 2
+  read : Operation 3
+  write : Operation 4
+  begin : Operation 5
+  end : Operation 6
+
+operation : (op : ℕ) → 1 ≤ op → op ≤ 6 → Operation op
+operation zero l h = absurd (omega arith)
+operation (suc zero) l h = acquire
+operation (suc (suc zero)) l h = release
+operation (suc (suc (suc zero))) l h = read
+operation (suc (suc (suc (suc zero)))) l h = write
+operation (suc (suc (suc (suc (suc zero))))) l h = begin
+operation (suc (suc (suc (suc (suc (suc zero)))))) l h = end
+operation (suc (suc (suc (suc (suc (suc (suc n))))))) l h = absurd (omega arith)
+
+object-fits : {op : ℕ} → Operation op → (o : ℕ) → objectFits op o ≡ true → ObjectInRange (actionOf op o)
+object-fits acquire o e = omega (arith, leb-true o 63 e)
+object-fits release o e = omega (arith, leb-true o 63 e)
+object-fits read o e = omega (arith, leb-true o 1023 e)
+object-fits write o e = omega (arith, leb-true o 1023 e)
+object-fits begin o e = tt
+object-fits end o e = tt
+
+-- what is decoded is in its ranges
+pub decoded-in-range : (w : ℕ) (f : Frame) → decodeWord w ≡ decoded.Frame f → InRange f
+decoded-in-range w f e =
+    let s = shown (w / 16777216) (w / 65536 % 256) (w % 65536) f e in
+    let p : InRange (record { thread = record { 0 = w / 65536 % 256 }; action = actionOf (w / 16777216) (w % 65536) }) = record {
+      thread = omega (arith, s .thread);
+      object = object-fits (operation (w / 16777216) (s .low) (s .high)) (w % 65536) (s .object);
+    } in
+    rw (s .frame) p
+
+encoded : {op : ℕ} → Operation op → (t o : ℕ) → objectFits op o ≡ true → encodeParts t (actionOf op o) ≡ wordOf op t o
+encoded acquire t o e = refl
+encoded release t o e = refl
+encoded read t o e = refl
+encoded write t o e = refl
+encoded begin t o e = rw (eqb-true o 0 e)
+encoded end t o e = rw (eqb-true o 0 e)
+
+-- encoding what was decoded gives the word
+pub encode-decode : (w : ℕ) (f : Frame) → decodeWord w ≡ decoded.Frame f → encodeFrame f ≡ w
+encode-decode w f e =
+    let s = shown (w / 16777216) (w / 65536 % 256) (w % 65536) f e in
+    ap encodeFrame (s .frame)
+    ∙ encoded (operation (w / 16777216) (s .low) (s .high)) (w / 65536 % 256) (w % 65536) (s .object)
+    ∙ omega arith
+
+parts : (op t o : ℕ) → t < 32 → o < 65536 → decodeWord (wordOf op t o) ≡ decodeParts op t o
+parts op t o h l =
+    let a : wordOf op t o / 16777216 ≡ op = omega arith in
+    let b : wordOf op t o / 65536 % 256 ≡ t = omega arith in
+    let d : wordOf op t o % 65536 ≡ o = omega arith in
+    rw (a, b, d)
+
+decode-parts : (t : ℕ) (a : Action) → t < 32 → ObjectInRange a → decodeWord (encodeParts t a) ≡ decoded.Frame (record { thread = record { 0 = t }; action = a })
+unfolding decodeParts
+decode-parts t (Acquire l) h g = parts 1 t (l .0) h (omega arith) ∙ simp (le-ltb 31 t (omega arith), le-leb (l .0) 63 (omega arith))
+decode-parts t (Release l) h g = parts 2 t (l .0) h (omega arith) ∙ simp (le-ltb 31 t (omega arith), le-leb (l .0) 63 (omega arith))
+decode-parts t (Read v) h g = parts 3 t (v .0) h (omega arith) ∙ simp (le-ltb 31 t (omega arith), le-leb (v .0) 1023 (omega arith))
+decode-parts t (Write v) h g = parts 4 t (v .0) h (omega arith) ∙ simp (le-ltb 31 t (omega arith), le-leb (v .0) 1023 (omega arith))
+decode-parts t Begin h g = parts 5 t 0 h (omega arith) ∙ simp (le-ltb 31 t (omega arith))
+decode-parts t End h g = parts 6 t 0 h (omega arith) ∙ simp (le-ltb 31 t (omega arith))
+
+-- decoding what was encoded gives the frame
+pub decode-encode : (f : Frame) → InRange f → decodeWord (encodeFrame f) ≡ decoded.Frame f
+decode-encode f g = decode-parts (f .thread .0) (f .action) (g .thread) (g .object)
+
+-- Every refusal's number is at most 17.
+pub number-small : (r : Refusal) → refusalNumber r ≤ 17
+number-small refusal.Line = omega arith
+number-small refusal.TooLong = omega arith
+number-small refusal.WordBuffer = omega arith
+number-small refusal.Operation = omega arith
+number-small refusal.Thread = omega arith
+number-small refusal.Object = omega arith
+number-small refusal.LockTaken = omega arith
+number-small refusal.LockNotHeld = omega arith
+number-small refusal.TooDeep = omega arith
+number-small refusal.NoOpenBlock = omega arith
+number-small refusal.GuardRange = omega arith
+number-small refusal.GuardRepeated = omega arith
+number-small refusal.SetTable = omega arith
+number-small refusal.LineBuffer = omega arith

@@ -1,0 +1,2 @@
+-- Laws of frames that crates above cite.
+pub mod Laws

@@ -1,0 +1,3 @@
+-- What a reader must believe of frames and refusals. Their laws are in proofs/Laws.
+pub mod Frame
+pub mod Refusal

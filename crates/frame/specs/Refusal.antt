@@ -1,0 +1,20 @@
+-- The numbers of document 01's table of refusals.
+use Prim.Native.Nat.{ℕ}
+use Rattle.frame.specs.declared.Refusal.{Refusal}
+use Rattle.frame.specs.declared.Refusal.the-variants as refusal
+
+abbrev pub refusalNumber : Refusal → ℕ
+refusalNumber refusal.Line = 1
+refusalNumber refusal.TooLong = 2
+refusalNumber refusal.WordBuffer = 3
+refusalNumber refusal.Operation = 4
+refusalNumber refusal.Thread = 5
+refusalNumber refusal.Object = 6
+refusalNumber refusal.LockTaken = 7
+refusalNumber refusal.LockNotHeld = 8
+refusalNumber refusal.TooDeep = 9
+refusalNumber refusal.NoOpenBlock = 10
+refusalNumber refusal.GuardRange = 11
+refusalNumber refusal.GuardRepeated = 12
+refusalNumber refusal.SetTable = 16
+refusalNumber refusal.LineBuffer = 17

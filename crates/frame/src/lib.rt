@@ -1,0 +1,159 @@
+// Frames (the field's term is event): a 32-bit word taken apart into a thread and what it does, and put together again.
+// Also the refusals that every part of the library answers with.
+ghost use mathlib.Core.Path.{_≡_};
+ghost use Rattle.frame.specs.Frame.{decodeWord, encodeFrame, wordOf};
+ghost use Rattle.frame.specs.Refusal.{refusalNumber};
+
+// The three domains of numbers that a frame names.
+pub struct Thread(pub u8);
+
+pub struct Lock(pub u8);
+
+pub struct Variable(pub u16);
+
+pub enum Action {
+    Acquire(Lock),
+    Release(Lock),
+    Read(Variable),
+    Write(Variable),
+    Begin,
+    End,
+}
+
+pub struct Frame {
+    pub thread: Thread,
+    pub action: Action,
+}
+
+// Why something is refused. `refusalNumber` of specs/ has the number of each.
+pub enum Refusal {
+    Line,
+    TooLong,
+    WordBuffer,
+    Operation,
+    Thread,
+    Object,
+    LockTaken,
+    LockNotHeld,
+    TooDeep,
+    NoOpenBlock,
+    GuardRange,
+    GuardRepeated,
+    SetTable,
+    LineBuffer,
+}
+
+pub struct Refused {
+    pub reason: Refusal,
+    pub place: u32,
+}
+
+pub enum Decoded {
+    Frame(Frame),
+    Bad(Refusal),
+}
+
+pub fn decode(word: u32) -> Decoded
+    ensures { λ r. ⌜ r ≡ decodeWord word ⌝ }
+{
+    let op = word / 16777216;
+    let thread = word / 65536 % 256;
+    let object = word % 65536;
+    if op < 1 {
+        return Decoded::Bad(Refusal::Operation);
+    }
+    if 6 < op {
+        return Decoded::Bad(Refusal::Operation);
+    }
+    if 31 < thread {
+        return Decoded::Bad(Refusal::Thread);
+    }
+    let t = Thread(thread as u8);
+    if op <= 2 {
+        if 63 < object {
+            return Decoded::Bad(Refusal::Object);
+        }
+        let lock = Lock(object as u8);
+        if op == 1 {
+            return Decoded::Frame(Frame {
+                thread: t,
+                action: Action::Acquire(lock),
+            });
+        }
+        return Decoded::Frame(Frame {
+            thread: t,
+            action: Action::Release(lock),
+        });
+    }
+    if op <= 4 {
+        if 1023 < object {
+            return Decoded::Bad(Refusal::Object);
+        }
+        let variable = Variable(object as u16);
+        if op == 3 {
+            return Decoded::Frame(Frame {
+                thread: t,
+                action: Action::Read(variable),
+            });
+        }
+        return Decoded::Frame(Frame {
+            thread: t,
+            action: Action::Write(variable),
+        });
+    }
+    if object != 0 {
+        return Decoded::Bad(Refusal::Object);
+    }
+    if op == 5 {
+        return Decoded::Frame(Frame {
+            thread: t,
+            action: Action::Begin,
+        });
+    }
+    Decoded::Frame(Frame {
+        thread: t,
+        action: Action::End,
+    })
+}
+
+fn word_of(op: u8, thread: u8, object: u16) -> u32
+    ensures { λ r. ⌜ r ≡ wordOf op thread object ⌝ }
+{
+    (op as u32) * 16777216 + (thread as u32) * 65536 + (object as u32)
+}
+
+pub fn encode(f: Frame) -> u32
+    ensures { λ r. ⌜ r ≡ encodeFrame f ⌝ }
+{
+    let t = f.thread.0;
+    let a = f.action;
+    match a {
+        Action::Acquire(l) => word_of(1, t, l.0 as u16),
+        Action::Release(l) => word_of(2, t, l.0 as u16),
+        Action::Read(v) => word_of(3, t, v.0),
+        Action::Write(v) => word_of(4, t, v.0),
+        Action::Begin => word_of(5, t, 0),
+        Action::End => word_of(6, t, 0),
+    }
+}
+
+pub fn refusal_number(r: Refusal) -> u8
+    ensures { λ n. ⌜ n ≡ refusalNumber r ⌝ }
+{
+    match r {
+        Refusal::Line => 1,
+        Refusal::TooLong => 2,
+        Refusal::WordBuffer => 3,
+        Refusal::Operation => 4,
+        Refusal::Thread => 5,
+        Refusal::Object => 6,
+        Refusal::LockTaken => 7,
+        Refusal::LockNotHeld => 8,
+        Refusal::TooDeep => 9,
+        Refusal::NoOpenBlock => 10,
+        Refusal::GuardRange => 11,
+        Refusal::GuardRepeated => 12,
+        Refusal::SetTable => 16,
+        Refusal::LineBuffer => 17,
+    }
+}
