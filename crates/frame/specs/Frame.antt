@@ -9,6 +9,7 @@ use Rattle.frame.specs.declared.Variable.{Variable}
 use Rattle.frame.specs.declared.Frame.{Frame}
 use Rattle.frame.specs.declared.Action.{Action}
 use Rattle.frame.specs.declared.Action.the-variants.{Acquire, Release, Read, Write, Begin, End}
+use Rattle.frame.specs.declared.Refusal.{Refusal}
 use Rattle.frame.specs.declared.Refusal.the-variants as refusal
 use Rattle.frame.specs.declared.Decoded.{Decoded}
 use Rattle.frame.specs.declared.Decoded.the-variants as decoded
@@ -37,6 +38,11 @@ decodeParts op t o =
 
 abbrev pub decodeWord : ℕ → Decoded
 decodeWord w = decodeParts (w / 16777216) (w / 65536 % 256) (w % 65536)
+
+-- The refusal of a word that does not decode (asked of no other).
+abbrev pub refusalOf : Decoded → Refusal
+refusalOf (decoded.Frame f) = refusal.Operation
+refusalOf (decoded.Bad r) = r
 
 -- The word with these three parts.
 abbrev pub wordOf : ℕ → ℕ → ℕ → ℕ

@@ -1,7 +1,7 @@
 // Frames (the field's term is event): a 32-bit word taken apart into a thread and what it does, and put together again.
 // Also the refusals that every part of the library answers with.
 ghost use mathlib.Core.Path.{_≡_};
-ghost use Rattle.frame.specs.Frame.{decodeWord, encodeFrame, wordOf};
+ghost use Rattle.frame.specs.Frame.{decodeWord, encodeFrame, wordOf, refusalOf};
 ghost use Rattle.frame.specs.Refusal.{refusalNumber};
 
 // The three domains of numbers that a frame names.
@@ -114,6 +114,16 @@ pub fn decode(word: u32) -> Decoded
         thread: t,
         action: Action::End,
     })
+}
+
+// The refusal of a word that does not decode.
+pub fn refusal_of(d: Decoded) -> Refusal
+    ensures { λ r. ⌜ r ≡ refusalOf d ⌝ }
+{
+    match d {
+        Decoded::Bad(r) => r,
+        Decoded::Frame(_) => Refusal::Operation,
+    }
 }
 
 fn word_of(op: u8, thread: u8, object: u16) -> u32

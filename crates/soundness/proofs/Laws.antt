@@ -1,0 +1,56 @@
+-- Laws of soundness: how a pass goes on from place i, by what the frame there does, and what a sound recording is.
+use Prim.Native.Nat.{ℕ, _+_, _≤_, _<_}
+use mathlib.Core.Path.{_≡_, refl, _∙_}
+use mathlib.Core.Bool.{Bool, true, false}
+use mathlib.Core.List.{List}
+use native.Mathlib.Numerals.{add-one}
+use native.Mathlib.Omega.{arith}
+use lib.ListN.{length, getD, drop, drop-of-length-le}
+use lib.Seq.{drop-cons}
+use lib.Dec.{ltb}
+use borrow.Author.Tests.{le-ltb, ltb-false}
+use Rattle.frame.specs.Frame.{decodeWord}
+use Rattle.frame.specs.declared.Frame.{Frame}
+use Rattle.frame.specs.declared.Decoded.the-variants as decoded
+use Rattle.frame.specs.declared.Refusal.{Refusal}
+use Rattle.frame.specs.declared.Refusal.the-variants as refusal
+use Rattle.soundness.specs.declared.CheckReply.the-variants as reply
+use Rattle.soundness.specs.declared.Outcome.the-variants as outcome
+use Rattle.soundness.specs.Soundness.{State, stepped, stepFrame, stepDecoded, onOutcome, Checked, checked, refused, checkFrom, checkReply, start}
+
+pub check-short : (ws : List ℕ) → length ws ≤ 4096 → checkReply ws ≡ checkFrom 0 start ws .reply
+check-short ws h = rw (le-ltb 4096 (length ws) h)
+
+module _ (ws : List ℕ) (i : ℕ) (s : State) where
+  pub check-end : length ws ≤ i → checkFrom i s (drop i ws) ≡ checked reply.Sound s
+  unfolding checkFrom
+  check-end h = rw (drop-of-length-le ws h)
+
+  module _ (h : i < length ws) where
+    opened : checkFrom i s (drop i ws)
+        ≡ onOutcome (stepDecoded (decodeWord (getD ws i 0)) s .outcome) (stepDecoded (decodeWord (getD ws i 0)) s .state) i (λ n. checkFrom (i + 1) n (drop (i + 1) ws))
+    unfolding checkFrom
+    opened = rw (drop-cons ws i 0 h, add-one i)
+
+    -- the word does not decode
+    pub check-bad : (r : Refusal) → decodeWord (getD ws i 0) ≡ decoded.Bad r → checkFrom i s (drop i ws) ≡ checked (refused r i) s
+    check-bad r e = opened ∙ rw e
+
+    module _ (f : Frame) (n : State) (e : decodeWord (getD ws i 0) ≡ decoded.Frame f) where
+      -- the frame is refused
+      pub check-fail : (r : Refusal) → stepFrame f s ≡ stepped (outcome.Bad r) n → checkFrom i s (drop i ws) ≡ checked (refused r i) n
+      check-fail r g = opened ∙ rw (e, g)
+
+      -- the frame passes
+      pub check-next : stepFrame f s ≡ stepped outcome.Next n → checkFrom i s (drop i ws) ≡ checkFrom (i + 1) n (drop (i + 1) ws)
+      check-next g = opened ∙ rw (e, g)
+
+-- a sound recording has at most 4,096 frames
+pub sound-fits : (ws : List ℕ) → checkReply ws ≡ reply.Sound → length ws ≤ 4096
+sound-fits ws e = go (ltb 4096 (length ws)) refl
+  where
+    go : (t : Bool) → ltb 4096 (length ws) ≡ t → length ws ≤ 4096
+    go true q =
+        let f : refused refusal.TooLong 4096 ≡ reply.Sound = rw q at e in
+        let z : _≡_ {A = ℕ} 0 1 = cc in absurd (omega arith)
+    go false q = ltb-false 4096 (length ws) q

@@ -1,0 +1,2 @@
+-- Laws of soundness that crates above cite.
+pub mod Laws

@@ -1,0 +1,95 @@
+-- Which recordings are sound, and which refusal the others meet: rows 2 and 4 to 10 of document 01's table.
+-- In this order: the state, the step of one frame, the pass from any state and place, the check of a whole recording.
+use Prim.Native.Nat.{ℕ, _+_, _-_}
+use mathlib.Core.Bool.{cond}
+use mathlib.Core.List.{List, [], _∷_}
+use lib.ListN.{length, getD, set, replicate}
+use lib.Dec.{ltb, leb, eqb}
+use Rattle.frame.specs.Frame.{decodeWord}
+use Rattle.frame.specs.declared.Action.{Action}
+use Rattle.frame.specs.declared.Action.the-variants.{Acquire, Release, Read, Write, Begin, End}
+use Rattle.frame.specs.declared.Frame.{Frame}
+use Rattle.frame.specs.declared.Decoded.{Decoded}
+use Rattle.frame.specs.declared.Decoded.the-variants as decoded
+use Rattle.frame.specs.declared.Refusal.{Refusal}
+use Rattle.frame.specs.declared.Refusal.the-variants as refusal
+use Rattle.soundness.specs.declared.CheckReply.{CheckReply}
+use Rattle.soundness.specs.declared.CheckReply.the-variants as reply
+use Rattle.soundness.specs.declared.Outcome.{Outcome}
+use Rattle.soundness.specs.declared.Outcome.the-variants as outcome
+
+-- The owner of each lock, 0 for none and else a thread's number plus 1; the depth of each thread, its begins less its ends.
+pub record State : Type 0 where
+  pub owners : List ℕ
+  pub depths : List ℕ
+
+abbrev pub stateOf : List ℕ → List ℕ → State
+stateOf o d = record { owners = o; depths = d }
+
+-- What one frame leads to. A refused frame leaves the state as it was.
+pub record Stepped : Type 0 where
+  pub outcome : Outcome
+  pub state : State
+
+abbrev pub stepped : Outcome → State → Stepped
+stepped o s = record { outcome = o; state = s }
+
+-- "7: acquire of a lock that any thread holds, itself included; 8: release of a lock this thread does not hold;
+-- 9: begin inside 15 open blocks of this thread; 10: end with none open"
+unfoldable pub stepAction : ℕ → Action → State → Stepped
+stepAction t (Acquire l) s =
+    cond (eqb (getD (s .owners) (l .0) 0) 0) (stepped outcome.Next (stateOf (set (s .owners) (l .0) (t + 1)) (s .depths)))
+    (stepped (outcome.Bad refusal.LockTaken) s)
+stepAction t (Release l) s =
+    cond (eqb (getD (s .owners) (l .0) 0) (t + 1)) (stepped outcome.Next (stateOf (set (s .owners) (l .0) 0) (s .depths)))
+    (stepped (outcome.Bad refusal.LockNotHeld) s)
+stepAction t (Read v) s = stepped outcome.Next s
+stepAction t (Write v) s = stepped outcome.Next s
+stepAction t Begin s =
+    cond (leb 15 (getD (s .depths) t 0)) (stepped (outcome.Bad refusal.TooDeep) s)
+    (stepped outcome.Next (stateOf (s .owners) (set (s .depths) t (getD (s .depths) t 0 + 1))))
+stepAction t End s =
+    cond (eqb (getD (s .depths) t 0) 0) (stepped (outcome.Bad refusal.NoOpenBlock) s)
+    (stepped outcome.Next (stateOf (s .owners) (set (s .depths) t (getD (s .depths) t 0 - 1))))
+
+abbrev pub stepFrame : Frame → State → Stepped
+stepFrame f s = stepAction (f .thread .0) (f .action) s
+
+-- "frame alone" comes before "frame in sequence": 4 to 6, then 7 to 10.
+abbrev pub stepDecoded : Decoded → State → Stepped
+stepDecoded (decoded.Frame f) s = stepFrame f s
+stepDecoded (decoded.Bad r) s = stepped (outcome.Bad r) s
+
+-- The reply of a pass, and the state that it leaves.
+pub record Checked : Type 0 where
+  pub reply : CheckReply
+  pub state : State
+
+abbrev pub checked : CheckReply → State → Checked
+checked r s = record { reply = r; state = s }
+
+abbrev pub refused : Refusal → ℕ → CheckReply
+refused r i = reply.Refused (record { reason = r; place = i })
+
+abbrev pub onOutcome : Outcome → State → ℕ → (State → Checked) → Checked
+onOutcome outcome.Next s i rest = rest s
+onOutcome (outcome.Bad r) s i rest = checked (refused r i) s
+
+-- The frames from place i on, in state s. "The first frame that fails decides."
+unfoldable pub checkFrom : ℕ → State → List ℕ → Checked
+checkFrom i s [] = checked reply.Sound s
+checkFrom i s (w ∷ ws) =
+    onOutcome (stepDecoded (decodeWord w) s .outcome) (stepDecoded (decodeWord w) s .state) i (λ n. checkFrom (i + 1) n ws)
+
+-- "A recording starts with no lock held and no block open."
+unfoldable pub start : State
+start = stateOf (replicate 64 0) (replicate 32 0)
+
+-- "recording as words, before its frames; 2: more than 4,096 words; 4096"
+abbrev pub checkReply : List ℕ → CheckReply
+checkReply ws = cond (ltb 4096 (length ws)) (refused refusal.TooLong 4096) (checkFrom 0 start ws .reply)
+
+-- The refusal of a frame that does not pass (asked of no other).
+abbrev pub outcomeRefusal : Outcome → Refusal
+outcomeRefusal outcome.Next = refusal.LockTaken
+outcomeRefusal (outcome.Bad r) = r

@@ -1,0 +1,120 @@
+// Whether a recording (the field's term is trace) is sound: each frame decodes, and locks and blocks are taken and left in turn.
+use frame::Action;
+use frame::Decoded;
+use frame::Frame;
+use frame::Refusal;
+use frame::Refused;
+ghost use mathlib.Core.Path.{_≡_};
+ghost use Prim.Native.Nat.{_≤_};
+ghost use lib.ListN.{length, drop};
+ghost use Rattle.frame.specs.Frame.{InRange};
+ghost use Rattle.soundness.specs.Soundness.{stepFrame, stepped, stateOf, outcomeRefusal, checked, checkFrom, checkReply};
+
+pub enum CheckReply {
+    Sound,
+    Refused(Refused),
+}
+
+// What a frame does to the locks and blocks.
+pub enum Outcome {
+    Next,
+    Bad(Refusal),
+}
+
+// One frame: the owner of each lock (0 for none, else a thread's number plus 1) and the depth of each thread.
+pub fn step(owners: &mut [u8; 64], depths: &mut [u8; 32], f: Frame) -> Outcome
+    requires { ⌜ InRange f ⌝ }
+    ensures { λ r. ⌜ stepFrame f (stateOf (now (owners .entry)) (now (depths .entry))) ≡ stepped r (stateOf (now (owners .exit)) (now (depths .exit))) ⌝ }
+{
+    let t = f.thread.0;
+    let a = f.action;
+    match a {
+        Action::Acquire(l) => {
+            let k = l.0 as usize;
+            if owners[k] != 0 {
+                return Outcome::Bad(Refusal::LockTaken);
+            }
+            owners[k] = t + 1;
+            Outcome::Next
+        }
+        Action::Release(l) => {
+            let k = l.0 as usize;
+            if owners[k] != t + 1 {
+                return Outcome::Bad(Refusal::LockNotHeld);
+            }
+            owners[k] = 0;
+            Outcome::Next
+        }
+        Action::Begin => {
+            let k = t as usize;
+            let d = depths[k];
+            if 15 <= d {
+                return Outcome::Bad(Refusal::TooDeep);
+            }
+            depths[k] = d + 1;
+            Outcome::Next
+        }
+        Action::End => {
+            let k = t as usize;
+            let d = depths[k];
+            if d == 0 {
+                return Outcome::Bad(Refusal::NoOpenBlock);
+            }
+            depths[k] = d - 1;
+            Outcome::Next
+        }
+        Action::Read(_) => Outcome::Next,
+        Action::Write(_) => Outcome::Next,
+    }
+}
+
+// The refusal of a frame that does not pass.
+pub fn outcome_refusal(o: Outcome) -> Refusal
+    ensures { λ r. ⌜ r ≡ outcomeRefusal o ⌝ }
+{
+    match o {
+        Outcome::Bad(r) => r,
+        Outcome::Next => Refusal::LockTaken,
+    }
+}
+
+// The frames from a place on, with the locks and blocks as they are there.
+pub fn check_from(words: &[u32], owners: &mut [u8; 64], depths: &mut [u8; 32], from: usize) -> CheckReply
+    requires { ⌜ from ≤ length (now words) ⌝ ∗ ⌜ length (now words) ≤ 4294967296 ⌝ }
+    ensures { λ r. ⌜ checked r (stateOf (now (owners .exit)) (now (depths .exit))) ≡ checkFrom from (stateOf (now (owners .entry)) (now (depths .entry))) (drop from (now (words .entry))) ⌝ }
+{
+    let mut i = from;
+    while i < words.len() {
+        let d = frame::decode(words[i]);
+        let Decoded::Frame(f) = d else {
+            return CheckReply::Refused(Refused {
+                reason: frame::refusal_of(d),
+                place: i as u32,
+            });
+        };
+        let o = step(owners, depths, f);
+        let Outcome::Next = o else {
+            return CheckReply::Refused(Refused {
+                reason: outcome_refusal(o),
+                place: i as u32,
+            });
+        };
+        i += 1;
+    }
+    CheckReply::Sound
+}
+
+// A whole recording.
+pub fn check(words: &[u32]) -> CheckReply
+    ensures { λ r. ⌜ r ≡ checkReply (now (words .entry)) ⌝ }
+{
+    if 4096 < words.len() {
+        return CheckReply::Refused(Refused {
+            reason: Refusal::TooLong,
+            place: 4096,
+        });
+    }
+    let mut owners = [0u8; 64];
+    let mut depths = [0u8; 32];
+    check_from(words, &mut owners, &mut depths, 0)
+}
