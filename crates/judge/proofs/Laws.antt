@@ -1,0 +1,67 @@
+-- Laws of the step of one frame.
+use Prim.Native.Nat.{ℕ, _-_, _*_, _^_, _%_, _<_}
+use mathlib.Core.Path.{_≡_, refl, sym, _∙_}
+use mathlib.Core.Bool.{Bool, true, false, cond, true≢false}
+use native.Mathlib.Omega.{arith}
+use native.Mathlib.Nat.{one-mul}
+use lib.Dec.{eqb}
+use lib.Pow.{shl-exact}
+use Rattle.frame.specs.declared.Thread.{Thread}
+use Rattle.reply.specs.declared.Kind.{Kind}
+use Rattle.reply.specs.declared.Mark.the-variants.{At, Absent}
+use Rattle.reply.specs.declared.Verdict.the-variants.{Violated}
+use Rattle.frame.specs.declared.Lock.{Lock}
+use Rattle.reply.specs.declared.Kind.the-variants as kind
+use Rattle.reply.specs.declared.Verdict.the-variants.{Reducible}
+use Rattle.judge.specs.Rules.{Judging, judged, violation, phaseOf, acquireIn, unprotectedIn}
+
+-- the set of one lock, as the machine shifts it
+pub shl-one : (n : ℕ) → n < 64 → (1 * 2 ^ n) % 2 ^ 64 ≡ 2 ^ n
+shl-one n h = shl-exact 1 n 64 (omega arith) (omega arith) ∙ one-mul (2 ^ n)
+
+-- the marks of a violation, from depth, begin and commit
+pub marks : (k : Kind) (i : ℕ) (t : Thread) (d b c l : ℕ)
+    → Violated (record { kind = k; frame = i; thread = t; begin = cond (eqb d 0) Absent (At b); commit = cond (eqb d 0) Absent (cond (eqb c 0) Absent (At (c - 1))); locks = l })
+    ≡ violation k i t (phaseOf d b c) l
+marks k i t d b c l = go (eqb d 0) refl (eqb c 0) refl
+  where
+    go : (p : Bool) → eqb d 0 ≡ p → (q : Bool) → eqb c 0 ≡ q
+        → Violated (record { kind = k; frame = i; thread = t; begin = cond (eqb d 0) Absent (At b); commit = cond (eqb d 0) Absent (cond (eqb c 0) Absent (At (c - 1))); locks = l })
+        ≡ violation k i t (phaseOf d b c) l
+    go true e q f = rw e
+    go false e true f = rw (e, f)
+    go false e false f = rw (e, f)
+
+-- whether a thread is after commit, from depth and commit
+abbrev pub afterCommit : ℕ → ℕ → Bool
+afterCommit d c = cond (eqb d 0) false (cond (eqb c 0) false true)
+
+module _ (i : ℕ) (t : Thread) (d b c : ℕ) (j : Judging) where
+  module _ (a : afterCommit d c ≡ true) where
+    after-is : (p : Bool) → eqb d 0 ≡ p → (q : Bool) → eqb c 0 ≡ q → (eqb d 0 ≡ false) × (eqb c 0 ≡ false)
+    after-is true e q f = absurd (true≢false (sym a ∙ rw e))
+    after-is false e true f = absurd (true≢false (sym a ∙ rw (e, f)))
+    after-is false e false f = (e, f)
+
+    pub acquire-after : (l : Lock) → acquireIn (phaseOf d b c) i t l j ≡ judged (violation kind.AcquireAfterCommit i t (phaseOf d b c) (2 ^ (l .0))) j
+    acquire-after l = let e = after-is (eqb d 0) refl (eqb c 0) refl in rw (e .0, e .1)
+
+    pub unprotected-after : (n : Judging) → unprotectedIn (phaseOf d b c) i t n j ≡ judged (violation kind.UnprotectedAfterCommit i t (phaseOf d b c) 0) j
+    unprotected-after n = let e = after-is (eqb d 0) refl (eqb c 0) refl in rw (e .0, e .1)
+
+  module _ (a : afterCommit d c ≡ false) where
+    pub acquire-else : (l : Lock) → acquireIn (phaseOf d b c) i t l j ≡ judged Reducible j
+    acquire-else l = go (eqb d 0) refl (eqb c 0) refl
+      where
+        go : (p : Bool) → eqb d 0 ≡ p → (q : Bool) → eqb c 0 ≡ q → acquireIn (phaseOf d b c) i t l j ≡ judged Reducible j
+        go true e q f = rw e
+        go false e true f = rw (e, f)
+        go false e false f = absurd (true≢false (rw (e, f) at a))
+
+    pub unprotected-else : (n : Judging) → unprotectedIn (phaseOf d b c) i t n j ≡ judged Reducible n
+    unprotected-else n = go (eqb d 0) refl (eqb c 0) refl
+      where
+        go : (p : Bool) → eqb d 0 ≡ p → (q : Bool) → eqb c 0 ≡ q → unprotectedIn (phaseOf d b c) i t n j ≡ judged Reducible n
+        go true e q f = rw e
+        go false e true f = rw (e, f)
+        go false e false f = absurd (true≢false (rw (e, f) at a))

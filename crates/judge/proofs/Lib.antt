@@ -1,0 +1,2 @@
+-- Laws of the judgement that crates above cite.
+pub mod Laws

@@ -1,0 +1,2 @@
+-- The judging pass over a recording.
+use Prim.Native.Nat.{ℕ}
