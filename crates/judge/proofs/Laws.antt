@@ -1,10 +1,14 @@
 -- Laws of the step of one frame.
 use Prim.Native.Nat.{ℕ, _-_, _*_, _^_, _%_, _<_}
-use mathlib.Core.Path.{_≡_, refl, sym, _∙_}
+use mathlib.Core.Path.{_≡_, refl, sym, ap, _∙_}
 use mathlib.Core.Bool.{Bool, true, false, cond, true≢false}
 use native.Mathlib.Omega.{arith}
 use native.Mathlib.Nat.{one-mul}
-use lib.Dec.{eqb}
+use lib.Dec.{eqb, ltb}
+use borrow.Author.Tests.{ltb-true}
+use mathlib.Core.List.{List}
+use lib.ListN.{getD, set}
+use lib.Bits.{bitAnd}
 use lib.Pow.{shl-exact}
 use Rattle.frame.specs.declared.Thread.{Thread}
 use Rattle.reply.specs.declared.Kind.{Kind}
@@ -13,7 +17,14 @@ use Rattle.reply.specs.declared.Verdict.the-variants.{Violated}
 use Rattle.frame.specs.declared.Lock.{Lock}
 use Rattle.reply.specs.declared.Kind.the-variants as kind
 use Rattle.reply.specs.declared.Verdict.the-variants.{Reducible}
-use Rattle.judge.specs.Rules.{Judging, judged, violation, phaseOf, acquireIn, unprotectedIn}
+use Rattle.reply.specs.declared.Verdict.{Verdict}
+use Rattle.reply.specs.declared.Violation.{Violation}
+use Rattle.frame.specs.declared.Variable.{Variable}
+use Rattle.guards.specs.Guards.{guardOf}
+use Rattle.judge.specs.Held.{Holdable, held}
+use Rattle.judge.specs.Rules.{Phase, outside, before, after, Judging, judgingOf, Judged, judged, violation, phaseOf, phaseAt, contains, committed, withCommit, acquireIn, unprotectedIn, judgeOperation, guardedAccess}
+use Rattle.judge.specs.declared.Operation.{Operation}
+use Rattle.judge.specs.declared.Operation.the-variants.{Acquire, Release, Protected, Unprotected, Inferred, Begin, End}
 
 -- the set of one lock, as the machine shifts it
 pub shl-one : (n : ℕ) → n < 64 → (1 * 2 ^ n) % 2 ^ 64 ≡ 2 ^ n
@@ -65,3 +76,60 @@ module _ (i : ℕ) (t : Thread) (d b c : ℕ) (j : Judging) where
         go true e q f = rw e
         go false e true f = rw (e, f)
         go false e false f = absurd (true≢false (rw (e, f) at a))
+
+-- a frame that goes wrong leaves the state as it was
+abbrev Keeps : Judging → Judged → Type 0
+Keeps j x = (v : Violation) (k : Judging) → x ≡ judged (Violated v) k → k ≡ j
+
+keeps-go : (j n : Judging) → Keeps j (judged Reducible n)
+keeps-go j n v k e =
+    let f : Reducible ≡ Violated v = ap (λ (x : Judged). x .verdict) e in
+    let z : _≡_ {A = ℕ} 0 1 = cc in absurd (omega arith)
+
+keeps-wrong : (j : Judging) (w : Verdict) → Keeps j (judged w j)
+keeps-wrong j w v k e = sym (ap (λ (x : Judged). x .judging) e)
+
+keeps-cond : (j : Judging) (b : Bool) (x y : Judged) → Keeps j x → Keeps j y → Keeps j (cond b x y)
+keeps-cond j true x y p q = p
+keeps-cond j false x y p q = q
+
+keeps-acquire : (p : Phase) (i : ℕ) (t : Thread) (l : Lock) (j : Judging) → Keeps j (acquireIn p i t l j)
+keeps-acquire outside i t l j = keeps-go j j
+keeps-acquire (before b) i t l j = keeps-go j j
+keeps-acquire (after b c) i t l j = keeps-wrong j (violation kind.AcquireAfterCommit i t (after b c) (2 ^ (l .0)))
+
+keeps-unprotected : (p : Phase) (i : ℕ) (t : Thread) (n j : Judging) → Keeps j (unprotectedIn p i t n j)
+keeps-unprotected outside i t n j = keeps-go j n
+keeps-unprotected (before b) i t n j = keeps-go j n
+keeps-unprotected (after b c) i t n j = keeps-wrong j (violation kind.UnprotectedAfterCommit i t (after b c) 0)
+
+pub wrong-keeps : (i : ℕ) (t : Thread) (d h : ℕ) (o : Operation) (j : Judging) → Keeps j (judgeOperation i t d h o j)
+unfolding judgeOperation
+wrong-keeps i t d h (Acquire l) j = keeps-acquire (phaseAt d t j) i t l j
+wrong-keeps i t d h (Release l) j = keeps-go j (withCommit t (committed d (getD (j .commits) (t .0) 0) i) j)
+wrong-keeps i t d h (Protected m) j =
+    keeps-cond j (contains h m) _ _ (keeps-go j j) (keeps-wrong j (violation kind.GuardNotHeld i t (phaseAt d t j) (2 ^ (m .0))))
+wrong-keeps i t d h Unprotected j = keeps-unprotected (phaseAt d t j) i t (withCommit t (committed d (getD (j .commits) (t .0) 0) i) j) j
+wrong-keeps i t d h (Inferred v) j =
+    keeps-cond j (eqb (bitAnd (getD (j .sets) (v .0) 0) h) 0) _ _ (keeps-wrong j (violation kind.SetEmptied i t (phaseAt d t j) (getD (j .sets) (v .0) 0)))
+    (keeps-go j (judgingOf (j .begins) (j .commits) (set (j .sets) (v .0) (bitAnd (getD (j .sets) (v .0) 0) h))))
+wrong-keeps i t d h Begin j =
+    keeps-cond j (eqb d 0) _ _ (keeps-go j (judgingOf (set (j .begins) (t .0) i) (set (j .commits) (t .0) 0) (j .sets))) (keeps-go j j)
+wrong-keeps i t d h End j = keeps-go j j
+
+-- an access holds and frees nothing, whatever its guard
+pub access-fits : (c : ℕ) (v : Variable) (h : ℕ) → v .0 < 1024 → Holdable (guardedAccess (guardOf c) v) h
+access-fits c v h small = go (ltb c 64) refl (eqb c 64) refl
+  where
+    go : (p : Bool) → ltb c 64 ≡ p → (q : Bool) → eqb c 64 ≡ q → Holdable (guardedAccess (guardOf c) v) h
+    go true e q f = rw e (ltb-true c 64 e)
+    go false e true f = rw (e, f) tt
+    go false e false f = rw (e, f) small
+
+pub access-holds : (c : ℕ) (v : Variable) (t : ℕ) (hs : List ℕ) → held t (guardedAccess (guardOf c) v) hs ≡ hs
+access-holds c v t hs = go (ltb c 64) refl (eqb c 64) refl
+  where
+    go : (p : Bool) → ltb c 64 ≡ p → (q : Bool) → eqb c 64 ≡ q → held t (guardedAccess (guardOf c) v) hs ≡ hs
+    go true e q f = rw e
+    go false e true f = rw (e, f)
+    go false e false f = rw (e, f)

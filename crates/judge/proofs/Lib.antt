@@ -1,2 +1,3 @@
 -- Laws of the judgement that crates above cite.
 pub mod Laws
+pub mod Held

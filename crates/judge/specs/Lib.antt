@@ -1,5 +1,4 @@
--- What a reader must believe of the judgement: the rules as a step function, the pass over a recording.
+-- What a reader must believe of the judgement: the rules as a step function.
 -- Held is about the code's way of keeping the locks that a thread holds. Laws are in proofs/.
 pub mod Rules
 pub mod Held
-pub mod Pass

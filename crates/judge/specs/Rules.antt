@@ -42,6 +42,10 @@ pub record Judging : Type 0 where
 abbrev pub judgingOf : List ℕ → List ℕ → List ℕ → Judging
 judgingOf b c s = record { begins = b; commits = c; sets = s }
 
+-- The phase of thread t at depth d.
+abbrev pub phaseAt : ℕ → Thread → Judging → Phase
+phaseAt d t j = phaseOf d (getD (j .begins) (t .0) 0) (getD (j .commits) (t .0) 0)
+
 -- What one frame leads to: `Reducible`, that is, go on, or its violation, which leaves the state as it was.
 pub record Judged : Type 0 where
   pub verdict : Verdict
@@ -109,21 +113,21 @@ unprotectedIn (after b c) i t next j = judged (violation kind.UnprotectedAfterCo
 
 -- One operation of thread t at place i; d is the thread's depth and h the set of the locks that it holds, both before the frame.
 unfoldable pub judgeOperation : ℕ → Thread → ℕ → ℕ → Operation → Judging → Judged
-judgeOperation i t d h (Acquire l) j = acquireIn (phaseOf d (getD (j .begins) (t .0) 0) (getD (j .commits) (t .0) 0)) i t l j
+judgeOperation i t d h (Acquire l) j = acquireIn (phaseAt d t j) i t l j
 -- "A release inside a block puts it after commit."
 judgeOperation i t d h (Release l) j = judged Reducible (withCommit t (committed d (getD (j .commits) (t .0) 0) i) j)
 -- "An access to a guarded variable goes wrong unless its thread holds the guard (locks: the guard alone), in a block or not, and otherwise
 -- changes nothing."
 judgeOperation i t d h (Protected m) j =
     cond (contains h m) (judged Reducible j)
-    (judged (violation kind.GuardNotHeld i t (phaseOf d (getD (j .begins) (t .0) 0) (getD (j .commits) (t .0) 0)) (2 ^ (m .0))) j)
+    (judged (violation kind.GuardNotHeld i t (phaseAt d t j) (2 ^ (m .0))) j)
 judgeOperation i t d h Unprotected j =
-    unprotectedIn (phaseOf d (getD (j .begins) (t .0) 0) (getD (j .commits) (t .0) 0)) i t (withCommit t (committed d (getD (j .commits) (t .0) 0) i) j) j
+    unprotectedIn (phaseAt d t j) i t (withCommit t (committed d (getD (j .commits) (t .0) 0) i) j) j
 -- "An access goes wrong where the set and the locks held by the thread have none in common (locks: the variable's set just before the
 -- frame); otherwise the set becomes what they share."
 judgeOperation i t d h (Inferred v) j =
     cond (eqb (bitAnd (getD (j .sets) (v .0) 0) h) 0)
-    (judged (violation kind.SetEmptied i t (phaseOf d (getD (j .begins) (t .0) 0) (getD (j .commits) (t .0) 0)) (getD (j .sets) (v .0) 0)) j)
+    (judged (violation kind.SetEmptied i t (phaseAt d t j) (getD (j .sets) (v .0) 0)) j)
     (judged Reducible (judgingOf (j .begins) (j .commits) (set (j .sets) (v .0) (bitAnd (getD (j .sets) (v .0) 0) h))))
 -- "An outermost begin puts it before commit; its matching end puts it outside; nested begins and ends change only depth."
 judgeOperation i t d h Begin j =

@@ -152,7 +152,15 @@ pub fn judge(
         Operation::Acquire(l) => {
             let c = commits[k];
             if after_commit(d, c) {
-                return wrong(Kind::AcquireAfterCommit, i, thread, d, begins[k], c, single(l));
+                return wrong(
+                    Kind::AcquireAfterCommit,
+                    i,
+                    thread,
+                    d,
+                    begins[k],
+                    c,
+                    single(l),
+                );
             }
             held[k] = held[k] + single(l);
             Verdict::Reducible
@@ -166,7 +174,15 @@ pub fn judge(
             if contains(held[k], m) {
                 return Verdict::Reducible;
             }
-            wrong(Kind::GuardNotHeld, i, thread, d, begins[k], commits[k], single(m))
+            wrong(
+                Kind::GuardNotHeld,
+                i,
+                thread,
+                d,
+                begins[k],
+                commits[k],
+                single(m),
+            )
         }
         Operation::Unprotected => {
             let c = commits[k];

@@ -79,7 +79,12 @@ pub fn outcome_refusal(o: Outcome) -> Refusal
 }
 
 // The frames from a place on, with the locks and blocks as they are there.
-pub fn check_from(words: &[u32], owners: &mut [u8; 64], depths: &mut [u8; 32], from: usize) -> CheckReply
+pub fn check_from(
+    words: &[u32],
+    owners: &mut [u8; 64],
+    depths: &mut [u8; 32],
+    from: usize,
+) -> CheckReply
     requires { ⌜ from ≤ length (now words) ⌝ ∗ ⌜ length (now words) ≤ 4294967296 ⌝ }
     ensures { λ r. ⌜ checked r (stateOf (now (owners .exit)) (now (depths .exit))) ≡ checkFrom from (stateOf (now (owners .entry)) (now (depths .entry))) (drop from (now (words .entry))) ⌝ }
 {

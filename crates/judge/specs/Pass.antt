@@ -1,2 +1,0 @@
--- The judging pass over a recording.
-use Prim.Native.Nat.{ℕ}

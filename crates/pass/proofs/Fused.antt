@@ -1,0 +1,108 @@
+-- The one pass of the code: each frame is checked and judged, and after a violation the rest is checked alone. It replies as a check of the
+-- whole recording before its judgement does.
+use Prim.Native.Nat.{ℕ, _+_, _≤_, _<_}
+use mathlib.Core.Path.{_≡_, refl, sym, _∙_}
+use mathlib.Core.List.{List, [], _∷_}
+use native.Mathlib.Numerals.{add-one}
+use lib.ListN.{length, getD, drop, drop-of-length-le}
+use lib.Seq.{drop-cons}
+use Rattle.frame.specs.Frame.{decodeWord}
+use Rattle.frame.specs.declared.Frame.{Frame}
+use Rattle.frame.specs.declared.Refusal.{Refusal}
+use Rattle.frame.specs.declared.Decoded.{Decoded}
+use Rattle.frame.specs.declared.Decoded.the-variants as decoded
+use Rattle.reply.specs.Reply.{refused, reducible, violated}
+use Rattle.reply.specs.declared.Reply.{Reply}
+use Rattle.reply.specs.declared.Violation.{Violation}
+use Rattle.reply.specs.declared.Verdict.{Verdict}
+use Rattle.reply.specs.declared.Verdict.the-variants as verdict
+use Rattle.soundness.specs.Soundness.{State, Stepped, stepped, stepFrame, checkFrom, checkReply, start}
+use Rattle.soundness.proofs.Laws.{check-short}
+use Rattle.soundness.specs.declared.Outcome.{Outcome}
+use Rattle.soundness.specs.declared.Outcome.the-variants as outcome
+use Rattle.soundness.specs.declared.CheckReply.{CheckReply}
+use Rattle.soundness.specs.declared.CheckReply.the-variants as check
+use Rattle.judge.specs.Rules.{Judging, Judged, judged}
+use Rattle.pass.specs.Pass.{Ended, ended, judgeFrame, onDecoded, onOutcome, onVerdict, judgeFrom, startJudging, onCheck, judgement, setsOf, afterCheck}
+
+abbrev pub onFused : Verdict → List ℕ → CheckReply → Ended → Ended
+onFused verdict.Reducible c q rest = rest
+onFused (verdict.Violated v) c q rest = ended (afterCheck q (verdict.Violated v)) c
+
+module _ (guards : List ℕ) where
+  unfoldable pub fusedFrom : ℕ → State → Judging → List ℕ → Ended
+  fusedFrom i s j [] = ended reducible (j .sets)
+  fusedFrom i s j (w ∷ ws) =
+      onDecoded (decodeWord w) i (j .sets) λ f.
+      onOutcome (stepFrame f s .outcome) i (j .sets)
+      (onFused (judgeFrame guards i f s j .verdict) (j .sets) (checkFrom (i + 1) (stepFrame f s .state) ws .reply)
+      (fusedFrom (i + 1) (stepFrame f s .state) (judgeFrame guards i f s j .judging) ws))
+
+-- The reply, and the sets where it is a verdict.
+abbrev pub shown : Ended → Ended
+shown e = ended (e .reply) (setsOf (e .reply) (e .sets))
+
+after-shown : (q : CheckReply) (v : Violation) (c k : List ℕ)
+    → shown (onCheck q c (ended (violated v) k)) ≡ shown (ended (afterCheck q (verdict.Violated v)) k)
+after-shown check.Sound v c k = refl
+after-shown (check.Refused r) v c k = refl
+
+pub fused-shown : (guards : List ℕ) (i : ℕ) (s : State) (j : Judging) (ws c : List ℕ)
+    → shown (onCheck (checkFrom i s ws .reply) c (judgeFrom guards i s j ws)) ≡ shown (fusedFrom guards i s j ws)
+unfolding checkFrom judgeFrom fusedFrom
+fused-shown guards i s j [] c = refl
+fused-shown guards i s j (w ∷ ws) c = decode-case (λ n k. fused-shown guards (i + 1) n k ws c) (decodeWord w) refl
+  where
+    judge-case : ((n : State) (k : Judging) → shown (onCheck (checkFrom (i + 1) n ws .reply) c (judgeFrom guards (i + 1) n k ws)) ≡ shown (fusedFrom guards (i + 1) n k ws))
+        → (f : Frame) → decodeWord w ≡ decoded.Frame f → (n : State) → stepFrame f s ≡ stepped outcome.Next n
+        → (v : Verdict) → judgeFrame guards i f s j .verdict ≡ v
+        → shown (onCheck (checkFrom i s (w ∷ ws) .reply) c (judgeFrom guards i s j (w ∷ ws))) ≡ shown (fusedFrom guards i s j (w ∷ ws))
+    judge-case ih f e n g verdict.Reducible a = rw (e, g, a) (ih n (judgeFrame guards i f s j .judging))
+    judge-case ih f e n g (verdict.Violated v) a = rw (e, g, a) (after-shown (checkFrom (i + 1) n ws .reply) v c (j .sets))
+
+    step-case : ((n : State) (k : Judging) → shown (onCheck (checkFrom (i + 1) n ws .reply) c (judgeFrom guards (i + 1) n k ws)) ≡ shown (fusedFrom guards (i + 1) n k ws))
+        → (f : Frame) → decodeWord w ≡ decoded.Frame f → (o : Outcome) (n : State) → stepFrame f s ≡ stepped o n
+        → shown (onCheck (checkFrom i s (w ∷ ws) .reply) c (judgeFrom guards i s j (w ∷ ws))) ≡ shown (fusedFrom guards i s j (w ∷ ws))
+    step-case ih f e outcome.Next n g = judge-case ih f e n g (judgeFrame guards i f s j .verdict) refl
+    step-case ih f e (outcome.Bad r) n g = rw (e, g)
+
+    decode-case : ((n : State) (k : Judging) → shown (onCheck (checkFrom (i + 1) n ws .reply) c (judgeFrom guards (i + 1) n k ws)) ≡ shown (fusedFrom guards (i + 1) n k ws))
+        → (d : Decoded) → decodeWord w ≡ d
+        → shown (onCheck (checkFrom i s (w ∷ ws) .reply) c (judgeFrom guards i s j (w ∷ ws))) ≡ shown (fusedFrom guards i s j (w ∷ ws))
+    decode-case ih (decoded.Frame f) e = step-case ih f e (stepFrame f s .outcome) (stepFrame f s .state) refl
+    decode-case ih (decoded.Bad r) e = rw e
+
+pub judgement-shown : (guards sets ws : List ℕ) → length ws ≤ 4096 → shown (judgement guards sets ws) ≡ shown (fusedFrom guards 0 start (startJudging sets) ws)
+unfolding judgement
+judgement-shown guards sets ws h = rw (check-short ws h) (fused-shown guards 0 start (startJudging sets) ws sets)
+
+-- how the pass goes on from place i
+module _ (guards ws : List ℕ) (i : ℕ) (s : State) (j : Judging) where
+  pub fused-end : length ws ≤ i → fusedFrom guards i s j (drop i ws) ≡ ended reducible (j .sets)
+  unfolding fusedFrom
+  fused-end h = rw (drop-of-length-le ws h)
+
+  module _ (h : i < length ws) where
+    opened : fusedFrom guards i s j (drop i ws)
+        ≡ onDecoded (decodeWord (getD ws i 0)) i (j .sets) λ f.
+        onOutcome (stepFrame f s .outcome) i (j .sets)
+        (onFused (judgeFrame guards i f s j .verdict) (j .sets) (checkFrom (i + 1) (stepFrame f s .state) (drop (i + 1) ws) .reply)
+        (fusedFrom guards (i + 1) (stepFrame f s .state) (judgeFrame guards i f s j .judging) (drop (i + 1) ws)))
+    unfolding fusedFrom
+    opened = rw (drop-cons ws i 0 h, add-one i)
+
+    pub fused-bad : (r : Refusal) → decodeWord (getD ws i 0) ≡ decoded.Bad r → fusedFrom guards i s j (drop i ws) ≡ ended (refused r i) (j .sets)
+    fused-bad r e = opened ∙ rw e
+
+    module _ (f : Frame) (n : State) (e : decodeWord (getD ws i 0) ≡ decoded.Frame f) where
+      pub fused-fail : (r : Refusal) → stepFrame f s ≡ stepped (outcome.Bad r) n → fusedFrom guards i s j (drop i ws) ≡ ended (refused r i) (j .sets)
+      fused-fail r g = opened ∙ rw (e, g)
+
+      module _ (g : stepFrame f s ≡ stepped outcome.Next n) (k : Judging) where
+        pub fused-wrong : (v : Violation) → judgeFrame guards i f s j ≡ judged (verdict.Violated v) k
+            → fusedFrom guards i s j (drop i ws) ≡ ended (afterCheck (checkFrom (i + 1) n (drop (i + 1) ws) .reply) (verdict.Violated v)) (j .sets)
+        fused-wrong v a = opened ∙ rw (e, g, a)
+
+        pub fused-next : judgeFrame guards i f s j ≡ judged verdict.Reducible k
+            → fusedFrom guards i s j (drop i ws) ≡ fusedFrom guards (i + 1) n k (drop (i + 1) ws)
+        fused-next a = opened ∙ rw (e, g, a)
