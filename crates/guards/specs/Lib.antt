@@ -1,1 +1,2 @@
+-- What a reader must believe of guard lists. Their laws are in proofs/Laws.
 pub mod Guards

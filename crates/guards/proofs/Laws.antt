@@ -1,0 +1,353 @@
+-- Laws of guard lists: reading line by line; then the table's length and codes, that a list is never too long, what an accepted
+-- list says of its text, of the variables that it names and of those that it does not name, and that no guard of a list is inferred.
+use Prim.Native.Nat.{ℕ, zero, suc, _+_, _*_, _≤_, _<_}
+use mathlib.Core.Path.{_≡_, refl, sym, ap, _∙_}
+use mathlib.Core.Bool.{Bool, true, false, cond}
+use mathlib.Core.List.{List, [], _∷_}
+use native.Mathlib.Omega.{arith}
+use native.Mathlib.Nat.{not-suc-le-zero}
+use lib.ListN.{length, getD, set, replicate, length-set, length-replicate, getD-replicate, List·getD-eq-default}
+use lib.Seq.{getD-set-same, getD-set-other, set-out}
+use lib.Dec.{ltb, leb, eqb}
+use borrow.Author.Tests.{lt-ltb, le-leb, lt-leb, ltb-true, ltb-false, leb-true, eqb-true, eqb-false, eq-eqb, ne-eqb}
+use Rattle.frame.specs.declared.Lock.{Lock}
+use Rattle.frame.specs.declared.Variable.{Variable}
+use Rattle.frame.specs.declared.Refused.{Refused}
+use Rattle.frame.specs.declared.Refusal.{Refusal}
+use Rattle.frame.specs.declared.Refusal.the-variants as refusal
+use Rattle.text.specs.declared.Line.{Line}
+use Rattle.text.specs.declared.Line.the-variants as line
+use Rattle.text.specs.Text.{lineOf, wordAt, linefeeds}
+use Rattle.text.proofs.Laws.{Accepted, ends, goes, accepted-length, accepted-linefeeds}
+use Rattle.guards.specs.Guards.{guardOf, guardVariable, guardLock, lines, refused, guardLine, onGuardLine, guardsFrom, noGuards, guardsRead}
+use Rattle.guards.specs.declared.Guard.{Guard}
+use Rattle.guards.specs.declared.Guard.the-variants.{Locked, Unprotected, Inferred}
+use Rattle.guards.specs.declared.GuardLine.the-variants as guard-line
+use Rattle.guards.specs.declared.GuardsRead.{GuardsRead}
+use Rattle.guards.specs.declared.GuardsReply.the-variants as reply
+
+-- the lines from line i on, with the table g
+module _ (s : List ℕ) (i : ℕ) (g : List ℕ) where
+  pub guards-done : (k : ℕ) → length s ≤ 9 * i → guardsFrom k s i g ≡ lines i g
+  unfolding guardsFrom
+  guards-done zero h = rw (le-leb (length s) (9 * i) h)
+  guards-done (suc k) h = rw (le-leb (length s) (9 * i) h)
+
+  pub guards-over : 9 * i < length s → guardsFrom 0 s i g ≡ refused refusal.TooLong 4096 g
+  unfolding guardsFrom
+  guards-over h = rw (lt-leb (length s) (9 * i) h)
+
+  pub guards-step : (k m : ℕ) → k ≡ suc m → 9 * i < length s
+      → guardsFrom k s i g ≡ onGuardLine (guardLine (lineOf s (9 * i))) i g (λ g′. guardsFrom m s (i + 1) g′)
+  unfolding guardsFrom
+  guards-step k m e h = rw (e, lt-leb (length s) (9 * i) h)
+
+never : {A : Type 0} → _≡_ {A = ℕ} 0 1 → A
+never z = absurd (omega arith)
+
+same-variable : (v w : Variable) (k l : Lock) → guard-line.Names w l ≡ guard-line.Names v k → v ≡ w
+same-variable v w k l e = cc
+
+-- a variable that a line names has an entry in the table
+pub names-variable : (l : Line) (v : Variable) (k : Lock) → guardLine l ≡ guard-line.Names v k → v .0 < 1024
+names-variable (line.Word w) v k e = go (ltb 1023 (guardVariable w)) refl (ltb 63 (guardLock w)) refl
+  where
+    go : (a : Bool) → ltb 1023 (guardVariable w) ≡ a → (b : Bool) → ltb 63 (guardLock w) ≡ b → v .0 < 1024
+    go true x b y = let f : guard-line.Bad refusal.GuardRange ≡ guard-line.Names v k = rw x at e in never (cc)
+    go false x true y = let f : guard-line.Bad refusal.GuardRange ≡ guard-line.Names v k = rw (x, y) at e in never (cc)
+    go false x false y =
+        rw (same-variable v _ k _ (rw (x, y) at e)) (omega (arith, ltb-false 1023 (guardVariable w) x))
+names-variable line.Malformed v k e = never (cc)
+
+-- A guard line's word that is taken where the table of the lines before is g.
+pub record Taken (g : List ℕ) (w : ℕ) : Type 0 where
+  pub variable : guardVariable w ≤ 1023
+  pub lock : guardLock w ≤ 63
+  pub unnamed : getD g (guardVariable w) 0 ≡ 64
+
+-- How reading goes on from line i with the table g, where k lines may come: to the end, to a refusal, or to line i + 1.
+pub data Run (s : List ℕ) : ℕ → ℕ → List ℕ → GuardsRead → Type 0 where
+  end : {k i : ℕ} {g : List ℕ} → length s ≤ 9 * i → Run s k i g (lines i g)
+  over : {i : ℕ} {g : List ℕ} → Run s zero i g (refused refusal.TooLong 4096 g)
+  stop : {k i : ℕ} {g : List ℕ} (r : Refusal) → (r ≡ refusal.TooLong → ⊥) → Run s k i g (refused r i g)
+  go-on : {k i : ℕ} {g : List ℕ} {r : GuardsRead} (w : ℕ) → lineOf s (9 * i) ≡ line.Word w → Taken g w
+      → Run s k (i + 1) (set g (guardVariable w) (guardLock w)) r → Run s (suc k) i g r
+
+pub run : (k : ℕ) (s : List ℕ) (i : ℕ) (g : List ℕ) → Run s k i g (guardsFrom k s i g)
+unfolding guardsFrom
+run zero s i g = go (leb (length s) (9 * i)) refl
+  where
+    go : (t : Bool) → leb (length s) (9 * i) ≡ t → Run s zero i g (guardsFrom zero s i g)
+    go true q = rw q (end (leb-true (length s) (9 * i) q))
+    go false q = rw q over
+run (suc k) s i g = go (run k s (i + 1)) (leb (length s) (9 * i)) refl (lineOf s (9 * i)) refl
+  where
+    word : ((h : List ℕ) → Run s k (i + 1) h (guardsFrom k s (i + 1) h)) → (w : ℕ) → lineOf s (9 * i) ≡ line.Word w
+        → (a : Bool) → ltb 1023 (guardVariable w) ≡ a → (b : Bool) → ltb 63 (guardLock w) ≡ b
+        → (d : Bool) → eqb (getD g (guardVariable w) 0) 64 ≡ d
+        → Run s (suc k) i g (onGuardLine (guardLine (line.Word w)) i g (λ g′. guardsFrom k s (i + 1) g′))
+    word ih w p true x b y d z = rw x (stop refusal.GuardRange (λ e. never (cc)))
+    word ih w p false x true y d z = rw (x, y) (stop refusal.GuardRange (λ e. never (cc)))
+    word ih w p false x false y false z = rw (x, y, z) (stop refusal.GuardRepeated (λ e. never (cc)))
+    word ih w p false x false y true z =
+        rw (x, y, z)
+        (go-on w p
+        (record {
+          variable = ltb-false 1023 (guardVariable w) x;
+          lock = ltb-false 63 (guardLock w) y;
+          unnamed = eqb-true (getD g (guardVariable w) 0) 64 z;
+        })
+        (ih (set g (guardVariable w) (guardLock w))))
+
+    go : ((h : List ℕ) → Run s k (i + 1) h (guardsFrom k s (i + 1) h)) → (t : Bool) → leb (length s) (9 * i) ≡ t
+        → (l : Line) → lineOf s (9 * i) ≡ l → Run s (suc k) i g (guardsFrom (suc k) s i g)
+    go ih true q l p = rw q (end (leb-true (length s) (9 * i) q))
+    go ih false q (line.Word w) p =
+        rw (q, p) (word ih w p (ltb 1023 (guardVariable w)) refl (ltb 63 (guardLock w)) refl (eqb (getD g (guardVariable w) 0) 64) refl)
+    go ih false q line.Malformed p = rw (q, p) (stop refusal.Line (λ e. never (cc)))
+
+pub whole : (s : List ℕ) → Run s 4096 0 noGuards (guardsRead s)
+whole s = run 4096 s 0 noGuards
+
+-- the table keeps its length
+run-length : {s : List ℕ} {k i : ℕ} {g : List ℕ} {r : GuardsRead} → Run s k i g r → length (r .table) ≡ length g
+run-length (end h) = refl
+run-length over = refl
+run-length (stop r h) = refl
+run-length {g = g} (go-on w e t m) = run-length m ∙ length-set g (guardVariable w) (guardLock w)
+
+pub table-length : (s : List ℕ) → length (guardsRead s .table) ≡ 1024
+table-length s = run-length (whole s) ∙ length-replicate {A = ℕ} 1024 64
+
+-- a code at most 64 for each variable; past the table, 64
+set-code : (g : List ℕ) (v l x : ℕ) → l ≤ 63 → getD g x 64 ≤ 64 → getD (set g v l) x 64 ≤ 64
+set-code g v l x h a = go (eqb x v) refl (ltb v (length g)) refl
+  where
+    go : (t : Bool) → eqb x v ≡ t → (u : Bool) → ltb v (length g) ≡ u → getD (set g v l) x 64 ≤ 64
+    go false q u p = rw (getD-set-other g v x l 64 (eqb-false x v q)) a
+    go true q true p = rw (eqb-true x v q, getD-set-same g v l 64 (ltb-true v (length g) p)) (omega arith)
+    go true q false p = rw (set-out g v l (ltb-false v (length g) p)) a
+
+run-codes : {s : List ℕ} {k i : ℕ} {g : List ℕ} {r : GuardsRead} → Run s k i g r → (x : ℕ) → getD g x 64 ≤ 64 → getD (r .table) x 64 ≤ 64
+run-codes (end h) x a = a
+run-codes over x a = a
+run-codes (stop r h) x a = a
+run-codes {g = g} (go-on w e t m) x a = run-codes m x (set-code g (guardVariable w) (guardLock w) x (t .lock) a)
+
+unnamed-code : (x : ℕ) → getD noGuards x 64 ≡ 64
+unnamed-code x = go (ltb x 1024) refl
+  where
+    go : (t : Bool) → ltb x 1024 ≡ t → getD noGuards x 64 ≡ 64
+    go true q = getD-replicate 1024 x 64 64 (ltb-true x 1024 q)
+    go false q = List·getD-eq-default noGuards 64 {n = x} (rw (length-replicate {A = ℕ} 1024 64) (ltb-false x 1024 q))
+
+pub table-codes : (s : List ℕ) (x : ℕ) → getD (guardsRead s .table) x 64 ≤ 64
+table-codes s x = run-codes (whole s) x (omega (arith, unnamed-code x))
+
+never-code : {A : Type 0} → _≡_ {A = ℕ} 0 64 → A
+never-code e = absurd (omega arith)
+
+-- a variable that is not named stands in the table
+inside : (g : List ℕ) (v : ℕ) → getD g v 0 ≡ 64 → v < length g
+inside [] v e = never-code e
+inside (x ∷ xs) zero e = omega arith
+inside (x ∷ xs) (suc v) e = omega (arith, inside xs v e)
+
+default-code : (g : List ℕ) (v : ℕ) → getD g v 0 ≡ 64 → getD g v 64 ≡ 64
+default-code [] v e = refl
+default-code (x ∷ xs) zero e = e
+default-code (x ∷ xs) (suc v) e = default-code xs v e
+
+-- the number of variables not named yet
+unfoldable free : List ℕ → ℕ
+free [] = 0
+free (x ∷ xs) = cond (eqb x 64) (free xs + 1) (free xs)
+
+free-set : (g : List ℕ) (v l : ℕ) → l ≤ 63 → getD g v 0 ≡ 64 → free (set g v l) + 1 ≡ free g
+unfolding free
+free-set [] v l h e = never-code e
+free-set (x ∷ xs) zero l h e =
+    let n : eqb l 64 ≡ false = ne-eqb l 64 (λ q. omega arith) in
+    rw (n, eq-eqb x 64 e)
+free-set (x ∷ xs) (suc v) l h e = go (free-set xs v l h e) (eqb x 64) refl
+  where
+    go : free (set xs v l) + 1 ≡ free xs → (t : Bool) → eqb x 64 ≡ t → free (x ∷ set xs v l) + 1 ≡ free (x ∷ xs)
+    go ih true q = rw q (omega arith)
+    go ih false q = rw q ih
+
+free-replicate : (n : ℕ) → free (replicate n 64) ≡ n
+unfolding free
+free-replicate zero = refl
+free-replicate (suc n) = omega (arith, free-replicate n)
+
+same-refused : (a b : Refused) → reply.Refused a ≡ reply.Refused b → a ≡ b
+same-refused a b e = cc
+
+-- each line names one variable more, so the lines never run out
+run-short : {s : List ℕ} {k i : ℕ} {g : List ℕ} {r : GuardsRead} → Run s k i g r → free g < k
+    → (p : ℕ) → r .reply ≡ reply.Refused (record { reason = refusal.TooLong; place = p }) → ⊥
+run-short (end h) b p e = never (cc)
+run-short over b p e = not-suc-le-zero b
+run-short (stop r h) b p e = h (ap (λ (z : Refused). z .reason) (same-refused _ _ e))
+run-short {g = g} (go-on w q t m) b p e =
+    run-short m (omega (arith, free-set g (guardVariable w) (guardLock w) (t .lock) (t .unnamed))) p e
+
+pub never-too-long : (s : List ℕ) (p : ℕ) → guardsRead s .reply ≡ reply.Refused (record { reason = refusal.TooLong; place = p }) → ⊥
+never-too-long s p e = run-short (whole s) (omega (arith, free-replicate 1024)) p e
+
+-- An accepted list: the reply is n lines.
+module _ (s : List ℕ) (n : ℕ) where
+  same-lines : (i : ℕ) → reply.Lines i ≡ reply.Lines n → i ≡ n
+  same-lines i e = cc
+
+  word-of : (i w : ℕ) → lineOf s (9 * i) ≡ line.Word w → wordAt s i ≡ w
+  unfolding wordAt
+  word-of i w e = rw e
+
+  run-accepted : {k i : ℕ} {g : List ℕ} {r : GuardsRead} → Run s k i g r → r .reply ≡ reply.Lines n → Accepted s k i n
+  run-accepted {k} {i} (end h) e = rw (← same-lines i e) (ends h)
+  run-accepted over e = never (cc)
+  run-accepted (stop r h) e = never (cc)
+  run-accepted (go-on w q t m) e = goes w q (run-accepted m e)
+
+  run-limit : {k i : ℕ} {g : List ℕ} {r : GuardsRead} → Run s k i g r → r .reply ≡ reply.Lines n → n ≤ i + free g
+  run-limit {i = i} (end h) e = omega (arith, same-lines i e)
+  run-limit over e = never (cc)
+  run-limit (stop r h) e = never (cc)
+  run-limit {g = g} (go-on w q t m) e = omega (arith, run-limit m e, free-set g (guardVariable w) (guardLock w) (t .lock) (t .unnamed))
+
+  run-after : {k i : ℕ} {g : List ℕ} {r : GuardsRead} → Run s k i g r → r .reply ≡ reply.Lines n → i ≤ n
+  run-after {i = i} (end h) e = omega (arith, same-lines i e)
+  run-after over e = never (cc)
+  run-after (stop r h) e = never (cc)
+  run-after (go-on w q t m) e = omega (arith, run-after m e)
+
+  -- what holds of line i and of each line from i + 1 on holds of each line from i on
+  line-cases : (P : ℕ → Type 0) (i : ℕ) → P i → ((j : ℕ) → i + 1 ≤ j → j < n → P j) → (j : ℕ) → i ≤ j → j < n → P j
+  line-cases P i p f j a b = go (eqb i j) refl
+    where
+      go : (t : Bool) → eqb i j ≡ t → P j
+      go true q = rw (← eqb-true i j q) p
+      go false q = f j (omega (arith, eqb-false i j q)) b
+
+  -- the code of a named variable stays
+  run-keeps : {k i : ℕ} {g : List ℕ} {r : GuardsRead} → Run s k i g r → (x : ℕ) → (getD g x 64 ≡ 64 → ⊥) → getD (r .table) x 64 ≡ getD g x 64
+  run-keeps (end h) x f = refl
+  run-keeps over x f = refl
+  run-keeps (stop r h) x f = refl
+  run-keeps {g = g} (go-on w q t m) x f =
+      let o : getD (set g (guardVariable w) (guardLock w)) x 64 ≡ getD g x 64
+      = getD-set-other g (guardVariable w) x (guardLock w) 64 (λ e. f (rw e (default-code g (guardVariable w) (t .unnamed)))) in
+      run-keeps m x (rw o f) ∙ o
+
+  set-lock : (g : List ℕ) (w : ℕ) → Taken g w → getD (set g (guardVariable w) (guardLock w)) (guardVariable w) 64 ≡ guardLock w
+  set-lock g w t = getD-set-same g (guardVariable w) (guardLock w) 64 (inside g (guardVariable w) (t .unnamed))
+
+  run-named : {k i : ℕ} {g : List ℕ} {r : GuardsRead} → Run s k i g r → r .reply ≡ reply.Lines n
+      → (j : ℕ) → i ≤ j → j < n → getD (r .table) (guardVariable (wordAt s j)) 64 ≡ guardLock (wordAt s j)
+  run-named {i = i} (end h) e j a b = absurd (omega (arith, same-lines i e))
+  run-named over e j a b = never (cc)
+  run-named (stop r h) e j a b = never (cc)
+  run-named {i = i} {g} {r} (go-on w q t m) e j a b =
+      let o = set-lock g w t in
+      let here : getD (r .table) (guardVariable w) 64 ≡ guardLock w = run-keeps m (guardVariable w) (rw o (λ z. omega (arith, t .lock))) ∙ o in
+      line-cases (λ j. getD (r .table) (guardVariable (wordAt s j)) 64 ≡ guardLock (wordAt s j)) i (rw (word-of i w q) here) (λ l c d. run-named m e l c d) j a b
+
+  run-unnamed : {k i : ℕ} {g : List ℕ} {r : GuardsRead} → Run s k i g r → r .reply ≡ reply.Lines n
+      → (x : ℕ) → ((j : ℕ) → i ≤ j → j < n → guardVariable (wordAt s j) ≡ x → ⊥) → getD (r .table) x 64 ≡ getD g x 64
+  run-unnamed (end h) e x f = refl
+  run-unnamed over e x f = refl
+  run-unnamed (stop r h) e x f = refl
+  run-unnamed {i = i} {g} (go-on w q t m) e x f =
+      run-unnamed m e x (λ j a b. f j (omega arith) b)
+      ∙ getD-set-other g (guardVariable w) x (guardLock w) 64 (λ z. f i (omega arith) (omega (arith, run-after m e)) (rw (word-of i w q) (sym z)))
+
+  run-range : {k i : ℕ} {g : List ℕ} {r : GuardsRead} → Run s k i g r → r .reply ≡ reply.Lines n
+      → (j : ℕ) → i ≤ j → j < n → (guardVariable (wordAt s j) ≤ 1023) × (guardLock (wordAt s j) ≤ 63)
+  run-range {i = i} (end h) e j a b = absurd (omega (arith, same-lines i e))
+  run-range over e j a b = never (cc)
+  run-range (stop r h) e j a b = never (cc)
+  run-range {i = i} (go-on w q t m) e j a b =
+      line-cases (λ j. (guardVariable (wordAt s j) ≤ 1023) × (guardLock (wordAt s j) ≤ 63)) i (rw (word-of i w q) (t .variable, t .lock)) (λ l c d. run-range m e l c d) j a b
+
+  other : (g : List ℕ) (w : ℕ) → Taken g w → (x : ℕ) → getD (set g (guardVariable w) (guardLock w)) x 64 ≡ 64 → x ≡ guardVariable w → ⊥
+  other g w t x f z = let o : guardLock w ≡ 64 = sym (set-lock g w t) ∙ (rw z at f) in omega (arith, t .lock)
+
+  -- a variable that is not named after a line was not named before it, nor by it
+  back : (g : List ℕ) (w : ℕ) → Taken g w → (x : ℕ) → getD (set g (guardVariable w) (guardLock w)) x 64 ≡ 64 → getD g x 64 ≡ 64
+  back g w t x f = sym (getD-set-other g (guardVariable w) x (guardLock w) 64 (other g w t x f)) ∙ f
+
+  -- a variable that a later line names is not named yet
+  run-fresh : {k i : ℕ} {g : List ℕ} {r : GuardsRead} → Run s k i g r → r .reply ≡ reply.Lines n
+      → (j : ℕ) → i ≤ j → j < n → getD g (guardVariable (wordAt s j)) 64 ≡ 64
+  run-fresh {i = i} (end h) e j a b = absurd (omega (arith, same-lines i e))
+  run-fresh over e j a b = never (cc)
+  run-fresh (stop r h) e j a b = never (cc)
+  run-fresh {i = i} {g} (go-on w q t m) e j a b =
+      line-cases (λ j. getD g (guardVariable (wordAt s j)) 64 ≡ 64) i
+      (rw (word-of i w q) (default-code g (guardVariable w) (t .unnamed)))
+      (λ l c d. back g w t (guardVariable (wordAt s l)) (run-fresh m e l c d))
+      j
+      a
+      b
+
+  run-distinct : {k i : ℕ} {g : List ℕ} {r : GuardsRead} → Run s k i g r → r .reply ≡ reply.Lines n
+      → (j : ℕ) → i ≤ j → j < n → (l : ℕ) → j < l → l < n → guardVariable (wordAt s l) ≡ guardVariable (wordAt s j) → ⊥
+  run-distinct {i = i} (end h) e j a b = absurd (omega (arith, same-lines i e))
+  run-distinct over e j a b = never (cc)
+  run-distinct (stop r h) e j a b = never (cc)
+  run-distinct {i = i} {g} (go-on w q t m) e j a b =
+      line-cases (λ j. (l : ℕ) → j < l → l < n → guardVariable (wordAt s l) ≡ guardVariable (wordAt s j) → ⊥) i
+      (λ l c d z. other g w t (guardVariable (wordAt s l)) (run-fresh m e l (omega arith) d) (rw (word-of i w q) at z))
+      (λ x c d. run-distinct m e x c d)
+      j
+      a
+      b
+
+-- What an accepted list says: the reply is n lines.
+module _ (s : List ℕ) (n : ℕ) (e : guardsRead s .reply ≡ reply.Lines n) where
+  -- its text is n lines of nine bytes, each with its LF
+  pub guards-length : 9 * n ≡ length s
+  guards-length = accepted-length (omega arith) (run-accepted s n (whole s) e)
+
+  pub guards-linefeeds : linefeeds s ≡ n
+  guards-linefeeds = omega (arith, accepted-linefeeds (run-accepted s n (whole s) e))
+
+  pub guards-limit : n ≤ 1024
+  guards-limit = omega (arith, run-limit s n (whole s) e, free-replicate 1024)
+
+  pub guards-range : (i : ℕ) → i < n → (guardVariable (wordAt s i) ≤ 1023) × (guardLock (wordAt s i) ≤ 63)
+  guards-range i h = run-range s n (whole s) e i (omega arith) h
+
+  -- "names each variable at most once"
+  pub guards-distinct : (i j : ℕ) → i < j → j < n → guardVariable (wordAt s j) ≡ guardVariable (wordAt s i) → ⊥
+  guards-distinct i j h l = run-distinct s n (whole s) e i (omega arith) (omega arith) j h l
+
+  -- the table has each named variable's lock, whatever the order of the lines
+  pub guards-named : (i : ℕ) → i < n → getD (guardsRead s .table) (guardVariable (wordAt s i)) 64 ≡ guardLock (wordAt s i)
+  guards-named i h = run-named s n (whole s) e i (omega arith) h
+
+  -- and each other variable is unprotected
+  pub guards-unnamed : (x : ℕ) → ((i : ℕ) → i < n → guardVariable (wordAt s i) ≡ x → ⊥) → getD (guardsRead s .table) x 64 ≡ 64
+  guards-unnamed x f = run-unnamed s n (whole s) e x (λ j a b. f j b) ∙ unnamed-code x
+
+  -- the same of the guards that the codes stand for
+  pub named-guard : (i : ℕ) → i < n → guardOf (getD (guardsRead s .table) (guardVariable (wordAt s i)) 64) ≡ Locked (record { 0 = guardLock (wordAt s i) })
+  named-guard i h = rw (guards-named i h) (rw (lt-ltb (guardLock (wordAt s i)) 64 (omega (arith, guards-range i h .1))))
+
+  pub unnamed-guard : (x : ℕ) → ((i : ℕ) → i < n → guardVariable (wordAt s i) ≡ x → ⊥) → guardOf (getD (guardsRead s .table) x 64) ≡ Unprotected
+  unnamed-guard x f = rw (guards-unnamed x f)
+
+-- No guard of a list is inferred.
+below-inferred : (c : ℕ) → c ≤ 64 → guardOf c ≡ Inferred → ⊥
+below-inferred c h e = go (ltb c 64) refl
+  where
+    go : (t : Bool) → ltb c 64 ≡ t → ⊥
+    go true q = let f : _≡_ {A = Guard} (Locked (record { 0 = c })) Inferred = rw q at e in never (cc)
+    go false q =
+        let c64 : c ≡ 64 = omega (arith, ltb-false c 64 q) in
+        let f : _≡_ {A = Guard} Unprotected Inferred = rw c64 at e in
+        never (cc)
+
+pub never-inferred : (s : List ℕ) (x : ℕ) → guardOf (getD (guardsRead s .table) x 64) ≡ Inferred → ⊥
+never-inferred s x e = below-inferred (getD (guardsRead s .table) x 64) (table-codes s x) e

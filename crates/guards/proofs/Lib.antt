@@ -1,0 +1,2 @@
+-- Laws of guard lists that crates above cite.
+pub mod Laws

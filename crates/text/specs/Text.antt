@@ -1,0 +1,106 @@
+-- What a text says: its digits, its lines, the words on them, and what reading a recording's text answers and writes.
+-- In this order: digits, one line, the lines of a text, the words written, the LFs of a text.
+use Prim.Native.Nat.{ℕ, zero, suc, _+_, _-_, _*_, _<_}
+use mathlib.Core.Path.{_≡_}
+use mathlib.Core.Bool.{cond}
+use mathlib.Core.List.{List, [], _∷_, _++_}
+use lib.ListN.{length, getD, take, drop}
+use lib.Dec.{ltb, leb, eqb}
+use Rattle.frame.specs.declared.Refusal.{Refusal}
+use Rattle.frame.specs.declared.Refusal.the-variants as refusal
+use Rattle.text.specs.declared.Line.{Line}
+use Rattle.text.specs.declared.Line.the-variants as line
+use Rattle.text.specs.declared.ReadReply.{ReadReply}
+use Rattle.text.specs.declared.ReadReply.the-variants as reply
+
+-- "digits 0-9 A-F": the value of each, and 16 for any other byte.
+unfoldable pub digitOf : ℕ → ℕ
+digitOf b = cond (ltb b 48) 16 (cond (ltb b 58) (b - 48) (cond (ltb b 65) 16 (cond (ltb b 71) (b - 55) 16)))
+
+-- The value of some digits, or that one of them is none.
+pub data Digits : Type 0 where
+  value : ℕ → Digits
+  none : Digits
+
+-- "eight digits 0-9 A-F, top digit first": the digits that follow those with the value v.
+unfoldable pub digitsValue : ℕ → List ℕ → Digits
+digitsValue v [] = value v
+digitsValue v (b ∷ bs) = cond (ltb 15 (digitOf b)) none (digitsValue (v * 16 + digitOf b) bs)
+
+-- The value of a byte as a digit, and 2^32 where it is none.
+unfoldable pub valueOf : ℕ → ℕ
+valueOf b = cond (ltb 15 (digitOf b)) 4294967296 (digitOf b)
+
+-- A table of those values.
+unfoldable pub Values : List ℕ → Type 0
+Values t = (b : ℕ) → b < 256 → getD t b 0 ≡ valueOf b
+
+abbrev pub lineWord : Digits → Line
+lineWord (value v) = line.Word v
+lineWord none = line.Malformed
+
+-- "On a line it is eight digits 0-9 A-F, top digit first, then one LF": the line that starts at a byte.
+unfoldable pub lineOf : List ℕ → ℕ → Line
+lineOf s at =
+    cond (ltb (length s - at) 9) line.Malformed
+    (cond (eqb (getD s (at + 8) 0) 10) (lineWord (digitsValue 0 (take 8 (drop at s)))) line.Malformed)
+
+abbrev pub wordIn : Line → ℕ
+wordIn (line.Word w) = w
+wordIn line.Malformed = 0
+
+-- The word of line i: "places and lines count from 0".
+unfoldable pub wordAt : List ℕ → ℕ → ℕ
+wordAt s i = wordIn (lineOf s (9 * i))
+
+abbrev pub refused : Refusal → ℕ → ReadReply
+refused r p = reply.Refused (record { reason = r; place = p })
+
+abbrev pub ifLine : Line → ReadReply → ReadReply → ReadReply
+ifLine (line.Word w) a b = a
+ifLine line.Malformed a b = b
+
+-- The lines from line i on, of which k more may come.
+-- "1: not eight such digits and an LF (blank, lower case, CR, unfinished last line)", at the line;
+-- "2: a byte stands after the 4,096th line; comes before 1 for that line", at 4096.
+unfoldable pub scanFrom : ℕ → List ℕ → ℕ → ReadReply
+scanFrom zero s i = cond (leb (length s) (9 * i)) (reply.Lines i) (refused refusal.TooLong 4096)
+scanFrom (suc k) s i =
+    cond (leb (length s) (9 * i)) (reply.Lines i)
+    (ifLine (lineOf s (9 * i)) (scanFrom k s (i + 1)) (refused refusal.Line i))
+
+-- "A recording is 0 to 4,096 frames": the number of lines of a text, or the first refusal among them.
+abbrev pub scanned : List ℕ → ReadReply
+scanned s = scanFrom 4096 s 0
+
+-- The number of lines before the end or the refusal.
+abbrev pub reached : ReadReply → ℕ
+reached (reply.Lines n) = n
+reached (reply.Refused r) = r .place
+
+-- The words of the first n lines.
+unfoldable pub wordsTo : List ℕ → ℕ → List ℕ
+wordsTo s zero = []
+wordsTo s (suc n) = wordsTo s n ++ (wordAt s n ∷ [])
+
+-- "word buffer, after all lines: 3: fewer words than lines", at the number of lines; m is the number of words.
+abbrev pub roomReply : ℕ → ReadReply → ReadReply
+roomReply m (reply.Lines n) = cond (ltb m n) (refused refusal.WordBuffer n) (reply.Lines n)
+roomReply m (reply.Refused r) = reply.Refused r
+
+abbrev pub readReply : List ℕ → ℕ → ReadReply
+readReply s m = roomReply m (scanned s)
+
+-- "Reading a recording's text gives the number of lines and writes that many words; later words keep their contents."
+-- "A refusal is its number and place; no lent buffer changes".
+abbrev pub written : ReadReply → List ℕ → List ℕ → List ℕ
+written (reply.Lines n) s ws = wordsTo s n ++ drop n ws
+written (reply.Refused r) s ws = ws
+
+abbrev pub readWords : List ℕ → List ℕ → List ℕ
+readWords s ws = written (readReply s (length ws)) s ws
+
+-- The number of LFs of a text, to which the laws tie the number of lines.
+unfoldable pub linefeeds : List ℕ → ℕ
+linefeeds [] = 0
+linefeeds (b ∷ bs) = cond (eqb b 10) (linefeeds bs + 1) (linefeeds bs)
