@@ -1,5 +1,6 @@
--- Laws of guard lists: reading line by line; then the table's length and codes, that a list is never too long, what an accepted
--- list says of its text, of the variables that it names and of those that it does not name, and that no guard of a list is inferred.
+-- Laws of guard lists, in this order: reading line by line; the table's length and codes; that a list is never too long; what an
+-- accepted list says of its text, of the variables that it names and of the others; that no guard of a list is inferred;
+-- which lists are accepted; that line order has no meaning.
 use Prim.Native.Nat.{ℕ, zero, suc, _+_, _*_, _≤_, _<_}
 use mathlib.Core.Path.{_≡_, refl, sym, ap, _∙_}
 use mathlib.Core.Bool.{Bool, true, false, cond}
@@ -7,9 +8,9 @@ use mathlib.Core.List.{List, [], _∷_}
 use native.Mathlib.Omega.{arith}
 use native.Mathlib.Nat.{not-suc-le-zero}
 use lib.ListN.{length, getD, set, replicate, length-set, length-replicate, getD-replicate, List·getD-eq-default}
-use lib.Seq.{getD-set-same, getD-set-other, set-out}
+use lib.Seq.{getD-set-same, getD-set-other, set-out, ext-getD}
 use lib.Dec.{ltb, leb, eqb}
-use borrow.Author.Tests.{lt-ltb, le-leb, lt-leb, ltb-true, ltb-false, leb-true, eqb-true, eqb-false, eq-eqb, ne-eqb}
+use borrow.Author.Tests.{lt-ltb, le-ltb, le-leb, lt-leb, ltb-true, ltb-false, leb-true, eqb-true, eqb-false, eq-eqb, ne-eqb}
 use Rattle.frame.specs.declared.Lock.{Lock}
 use Rattle.frame.specs.declared.Variable.{Variable}
 use Rattle.frame.specs.declared.Refused.{Refused}
@@ -18,7 +19,7 @@ use Rattle.frame.specs.declared.Refusal.the-variants as refusal
 use Rattle.text.specs.declared.Line.{Line}
 use Rattle.text.specs.declared.Line.the-variants as line
 use Rattle.text.specs.Text.{lineOf, wordAt, linefeeds}
-use Rattle.text.proofs.Laws.{Accepted, ends, goes, accepted-length, accepted-linefeeds}
+use Rattle.text.proofs.Laws.{Accepted, ends, goes, accepted-length, accepted-linefeeds, accepted-line}
 use Rattle.guards.specs.Guards.{guardOf, guardVariable, guardLock, lines, refused, guardLine, onGuardLine, guardsFrom, noGuards, guardsRead}
 use Rattle.guards.specs.declared.Guard.{Guard}
 use Rattle.guards.specs.declared.Guard.the-variants.{Locked, Unprotected, Inferred}
@@ -351,3 +352,87 @@ below-inferred c h e = go (ltb c 64) refl
 
 pub never-inferred : (s : List ℕ) (x : ℕ) → guardOf (getD (guardsRead s .table) x 64) ≡ Inferred → ⊥
 never-inferred s x e = below-inferred (getD (guardsRead s .table) x 64) (table-codes s x) e
+
+-- A list of n lines that is to be accepted: each is a line in its ranges, and no two name one variable.
+pub record Listed (s : List ℕ) (n : ℕ) : Type 0 where
+  pub size : length s ≡ 9 * n
+  pub line-at : (i : ℕ) → i < n → lineOf s (9 * i) ≡ line.Word (wordAt s i)
+  pub variables : (i : ℕ) → i < n → guardVariable (wordAt s i) ≤ 1023
+  pub locks : (i : ℕ) → i < n → guardLock (wordAt s i) ≤ 63
+  pub distinct : (i j : ℕ) → i < j → j < n → guardVariable (wordAt s j) ≡ guardVariable (wordAt s i) → ⊥
+
+module _ (s : List ℕ) (n : ℕ) (a : Listed s n) where
+  line-taken : (i : ℕ) (g : List ℕ) (more : List ℕ → GuardsRead) → i < n → getD g (guardVariable (wordAt s i)) 0 ≡ 64
+      → onGuardLine (guardLine (lineOf s (9 * i))) i g more ≡ more (set g (guardVariable (wordAt s i)) (guardLock (wordAt s i)))
+  line-taken i g more h e =
+      rw (
+        a .line-at i h,
+        le-ltb 1023 (guardVariable (wordAt s i)) (a .variables i h),
+        le-ltb 63 (guardLock (wordAt s i)) (a .locks i h),
+        eq-eqb (getD g (guardVariable (wordAt s i)) 0) 64 e,
+      )
+
+  all-taken : (d k i : ℕ) (g : List ℕ) → i + d ≡ n → free g < k
+      → ((j : ℕ) → i ≤ j → j < n → getD g (guardVariable (wordAt s j)) 0 ≡ 64) → guardsFrom k s i g .reply ≡ reply.Lines n
+  all-taken zero k i g e h f =
+      let q : i ≡ n = omega arith in
+      ap (λ (z : GuardsRead). z .reply) (guards-done s i g k (omega (arith, a .size))) ∙ rw q
+  all-taken (suc d) zero i g e h f = absurd (not-suc-le-zero h)
+  all-taken (suc d) (suc k) i g e h f =
+      let l : i < n = omega arith in
+      let v = guardVariable (wordAt s i) in
+      let u = f i (omega arith) l in
+      ap (λ (z : GuardsRead). z .reply)
+      (guards-step s i g (suc k) k refl (omega (arith, a .size)) ∙ line-taken i g (λ g′. guardsFrom k s (i + 1) g′) l u)
+      ∙ all-taken d k (i + 1) (set g v (guardLock (wordAt s i))) (omega arith)
+      (omega (arith, free-set g v (guardLock (wordAt s i)) (a .locks i l) u))
+      (λ j c b. getD-set-other g v (guardVariable (wordAt s j)) (guardLock (wordAt s i)) 0 (a .distinct i j (omega arith) b) ∙ f j (omega arith) b)
+
+  pub guards-accepts : guardsRead s .reply ≡ reply.Lines n
+  guards-accepts = all-taken n 4096 0 noGuards (omega arith) (omega (arith, free-replicate 1024)) (λ j c b. getD-replicate 1024 (guardVariable (wordAt s j)) 64 0 (omega (arith, a .variables j b)))
+
+-- and an accepted list is one
+pub guards-listed : (s : List ℕ) (n : ℕ) → guardsRead s .reply ≡ reply.Lines n → Listed s n
+guards-listed s n e = record {
+  size = sym (guards-length s n e);
+  line-at = λ i h. accepted-line (run-accepted s n (whole s) e) i (omega arith) h;
+  variables = λ i h. guards-range s n e i h .0;
+  locks = λ i h. guards-range s n e i h .1;
+  distinct = guards-distinct s n e;
+}
+
+-- Whether one of the first n lines names the variable x.
+data Named (s : List ℕ) (x n : ℕ) : Type 0 where
+  by : (i : ℕ) → i < n → guardVariable (wordAt s i) ≡ x → Named s x n
+  by-none : ((i : ℕ) → i < n → guardVariable (wordAt s i) ≡ x → ⊥) → Named s x n
+
+named : (s : List ℕ) (x n : ℕ) → Named s x n
+named s x zero = by-none (λ i h e. not-suc-le-zero h)
+named s x (suc n) = go (named s x n) (eqb (guardVariable (wordAt s n)) x) refl
+  where
+    go : Named s x n → (t : Bool) → eqb (guardVariable (wordAt s n)) x ≡ t → Named s x (suc n)
+    go m true q = by n (omega arith) (eqb-true (guardVariable (wordAt s n)) x q)
+    go (by i h e) false q = by i (omega arith) e
+    go (by-none f) false q = by-none (λ i h e. here i h e (eqb i n) refl)
+      where
+        here : (i : ℕ) → i < suc n → guardVariable (wordAt s i) ≡ x → (t : Bool) → eqb i n ≡ t → ⊥
+        here i h e true p = eqb-false (guardVariable (wordAt s n)) x q (rw (← eqb-true i n p) e)
+        here i h e false p = f i (omega (arith, eqb-false i n p)) e
+
+-- "Line order in it has no meaning": two accepted lists with the same lines, each line of one at some place of the other, give one table.
+module _ (s t : List ℕ) (m n : ℕ) (e : guardsRead s .reply ≡ reply.Lines m) (u : guardsRead t .reply ≡ reply.Lines n)
+    (f : ℕ → ℕ) (there : (i : ℕ) → i < m → (f i < n) × (wordAt t (f i) ≡ wordAt s i))
+    (h : ℕ → ℕ) (back-here : (j : ℕ) → j < n → (h j < m) × (wordAt s (h j) ≡ wordAt t j)) where
+  same-code : (x : ℕ) → Named s x m → getD (guardsRead s .table) x 64 ≡ getD (guardsRead t .table) x 64
+  same-code x (by i l q) =
+      let b : getD (guardsRead t .table) (guardVariable (wordAt s i)) 64 ≡ guardLock (wordAt s i) = rw (there i l .1) at (guards-named t n u (f i) (there i l .0)) in
+      let c = guards-named s m e i l ∙ sym b in
+      rw q at c
+  same-code x (by-none z) =
+      guards-unnamed s m e x z
+      ∙ sym (guards-unnamed t n u x (λ j l q. z (h j) (back-here j l .0) (rw (back-here j l .1) q)))
+
+  pub line-order : guardsRead s .table ≡ guardsRead t .table
+  line-order =
+      ext-getD 64 (guardsRead s .table) (guardsRead t .table) (table-length s ∙ sym (table-length t))
+      (λ x l. same-code x (named s x m))

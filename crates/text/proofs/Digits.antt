@@ -80,10 +80,10 @@ bound-step v d p r h l =
     rw (← mul-assoc (v + 1) 16 p) (lt-of-lt-of-le l (mul-le-mul-right p m))
 
 -- a field of n digits is below sixteen to the n
-pub hex-bound : (v : ℕ) (xs : List ℕ) (r : ℕ) → digitsValue v xs ≡ value r → r < (v + 1) * 16 ^ length xs
+pub digits-bound : (v : ℕ) (xs : List ℕ) (r : ℕ) → digitsValue v xs ≡ value r → r < (v + 1) * 16 ^ length xs
 unfolding digitsValue
-hex-bound v [] r e = let q : v ≡ r = cc in omega arith
-hex-bound v (b ∷ bs) r e = rw (pow-succ' 16 (length bs)) (go (hex-bound (v * 16 + digitOf b) bs r) (ltb 15 (digitOf b)) refl)
+digits-bound v [] r e = let q : v ≡ r = cc in omega arith
+digits-bound v (b ∷ bs) r e = rw (pow-succ' 16 (length bs)) (go (digits-bound (v * 16 + digitOf b) bs r) (ltb 15 (digitOf b)) refl)
   where
     go : (digitsValue (v * 16 + digitOf b) bs ≡ value r → r < (v * 16 + digitOf b + 1) * 16 ^ length bs) → (t : Bool) → ltb 15 (digitOf b) ≡ t → r < (v + 1) * (16 * 16 ^ length bs)
     go ih true q = let f : _≡_ {A = Digits} none (value r) = rw q at e in let z : _≡_ {A = ℕ} 0 1 = cc in omega arith
@@ -94,7 +94,7 @@ hex-bound v (b ∷ bs) r e = rw (pow-succ' 16 (length bs)) (go (hex-bound (v * 1
 pub word-bound : (s : List ℕ) (at r : ℕ) → at + 8 ≤ length s → digitsValue 0 (take 8 (drop at s)) ≡ value r → r < 4294967296
 word-bound s at r h e =
     let n : length (take 8 (drop at s)) ≡ 8 = simp (length-take, length-drop) (omega arith) in
-    let b : r < (0 + 1) * 16 ^ length (take 8 (drop at s)) = hex-bound 0 (take 8 (drop at s)) r e in
+    let b : r < (0 + 1) * 16 ^ length (take 8 (drop at s)) = digits-bound 0 (take 8 (drop at s)) r e in
     let g : r < 1 * 16 ^ 8 = rw n at b in
     omega arith
 

@@ -1,0 +1,78 @@
+-- The judgement keeps the length of the table of candidate sets.
+use Prim.Native.Nat.{ℕ, _+_}
+use mathlib.Core.Path.{_≡_, refl, _∙_}
+use mathlib.Core.Bool.{Bool, true, false, cond}
+use mathlib.Core.List.{List, [], _∷_}
+use lib.Dec.{eqb}
+use lib.Bits.{bitAnd}
+use lib.ListN.{length, getD, set, length-set}
+use Rattle.frame.specs.Frame.{decodeWord}
+use Rattle.frame.specs.declared.Thread.{Thread}
+use Rattle.frame.specs.declared.Lock.{Lock}
+use Rattle.frame.specs.declared.Decoded.{Decoded}
+use Rattle.frame.specs.declared.Decoded.the-variants as decoded
+use Rattle.reply.specs.declared.Verdict.{Verdict}
+use Rattle.reply.specs.declared.Verdict.the-variants as verdict
+use Rattle.soundness.specs.Soundness.{State, stepFrame, checkReply, start}
+use Rattle.soundness.specs.declared.Outcome.{Outcome}
+use Rattle.soundness.specs.declared.Outcome.the-variants as outcome
+use Rattle.soundness.specs.declared.CheckReply.{CheckReply}
+use Rattle.soundness.specs.declared.CheckReply.the-variants as check
+use Rattle.judge.specs.Rules.{Phase, outside, before, after, Judging, judgingOf, Judged, phaseAt, contains, withCommit, committed, acquireIn, unprotectedIn, judgeOperation}
+use Rattle.judge.specs.declared.Operation.{Operation}
+use Rattle.judge.specs.declared.Operation.the-variants.{Acquire, Release, Protected, Unprotected, Inferred, Begin, End}
+use Rattle.pass.specs.Pass.{Ended, ended, judgeFrame, onDecoded, onOutcome, onVerdict, judgeFrom, startJudging, onCheck, judgement}
+
+cond-length : (b : Bool) (x y : Judged) (n : ℕ) → length (x .judging .sets) ≡ n → length (y .judging .sets) ≡ n → length (cond b x y .judging .sets) ≡ n
+cond-length true x y n p q = p
+cond-length false x y n p q = q
+
+acquire-length : (p : Phase) (i : ℕ) (t : Thread) (l : Lock) (j : Judging) → length (acquireIn p i t l j .judging .sets) ≡ length (j .sets)
+acquire-length outside i t l j = refl
+acquire-length (before b) i t l j = refl
+acquire-length (after b c) i t l j = refl
+
+unprotected-length : (p : Phase) (i : ℕ) (t : Thread) (n j : Judging) → length (n .sets) ≡ length (j .sets) → length (unprotectedIn p i t n j .judging .sets) ≡ length (j .sets)
+unprotected-length outside i t n j e = e
+unprotected-length (before b) i t n j e = e
+unprotected-length (after b c) i t n j e = refl
+
+operation-length : (i : ℕ) (t : Thread) (d h : ℕ) (o : Operation) (j : Judging) → length (judgeOperation i t d h o j .judging .sets) ≡ length (j .sets)
+unfolding judgeOperation
+operation-length i t d h (Acquire l) j = acquire-length (phaseAt d t j) i t l j
+operation-length i t d h (Release l) j = refl
+operation-length i t d h (Protected m) j = cond-length (contains h m) _ _ (length (j .sets)) refl refl
+operation-length i t d h Unprotected j = unprotected-length (phaseAt d t j) i t (withCommit t (committed d (getD (j .commits) (t .0) 0) i) j) j refl
+operation-length i t d h (Inferred v) j = cond-length (eqb (bitAnd (getD (j .sets) (v .0) 0) h) 0) _ _ (length (j .sets)) refl (length-set (j .sets) _ _)
+operation-length i t d h Begin j = cond-length (eqb d 0) _ _ (length (j .sets)) refl refl
+operation-length i t d h End j = refl
+
+onward : (v : Verdict) (c : List ℕ) (e : Ended) (n : ℕ) → length c ≡ n → length (e .sets) ≡ n → length (onVerdict v c e .sets) ≡ n
+onward verdict.Reducible c e n p q = q
+onward (verdict.Violated w) c e n p q = p
+
+stepping : (o : Outcome) (i : ℕ) (c : List ℕ) (e : Ended) (n : ℕ) → length c ≡ n → length (e .sets) ≡ n → length (onOutcome o i c e .sets) ≡ n
+stepping outcome.Next i c e n p q = q
+stepping (outcome.Bad r) i c e n p q = p
+
+pub judge-length : (guards : List ℕ) (i : ℕ) (s : State) (j : Judging) (ws : List ℕ) → length (judgeFrom guards i s j ws .sets) ≡ length (j .sets)
+unfolding judgeFrom
+judge-length guards i s j [] = refl
+judge-length guards i s j (w ∷ ws) = go (λ n k. judge-length guards (i + 1) n k ws) (decodeWord w) refl
+  where
+    go : ((n : State) (k : Judging) → length (judgeFrom guards (i + 1) n k ws .sets) ≡ length (k .sets)) → (d : Decoded) → decodeWord w ≡ d
+        → length (judgeFrom guards i s j (w ∷ ws) .sets) ≡ length (j .sets)
+    go ih (decoded.Frame f) e =
+        rw e
+        (stepping (stepFrame f s .outcome) i (j .sets) _ (length (j .sets)) refl
+        (onward (judgeFrame guards i f s j .verdict) (j .sets) _ (length (j .sets)) refl
+        (ih (stepFrame f s .state) (judgeFrame guards i f s j .judging) ∙ operation-length _ _ _ _ _ _)))
+    go ih (decoded.Bad r) e = rw e
+
+checking : (q : CheckReply) (c : List ℕ) (e : Ended) → length (e .sets) ≡ length c → length (onCheck q c e .sets) ≡ length c
+checking check.Sound c e p = p
+checking (check.Refused r) c e p = refl
+
+pub judgement-length : (guards sets ws : List ℕ) → length (judgement guards sets ws .sets) ≡ length sets
+unfolding judgement startJudging
+judgement-length guards sets ws = checking (checkReply ws) sets _ (judge-length guards 0 start (startJudging sets) ws)

@@ -1,0 +1,58 @@
+-- Laws of the verdicts: copying a table, and what the inferred verdict answers and leaves by the judgement's reply.
+use Prim.Native.Nat.{ℕ, suc, _+_, _≤_, _<_}
+use mathlib.Core.Path.{_≡_, refl, sym, ap, _∙_}
+use mathlib.Core.List.{List, _++_}
+use native.Mathlib.Omega.{arith}
+use native.Mathlib.Numerals.{add-one}
+use borrow.Author.Tests.{lt-ltb, le-ltb}
+use lib.ListN.{length, getD, set, take, drop}
+use lib.Seq.{drop-cons, set-at, append-snoc, take-suc, length-take-le}
+use Rattle.frame.specs.declared.Refused.{Refused}
+use Rattle.frame.specs.declared.Refusal.the-variants as refusal
+use Rattle.reply.specs.Reply.{refused}
+use Rattle.reply.specs.declared.Reply.{Reply}
+use Rattle.reply.specs.declared.Reply.the-variants as reply
+use Rattle.reply.specs.declared.Verdict.{Verdict}
+use Rattle.verdict.specs.Verdict.{withTable, inferredEnd, inferredReply, inferredSets}
+
+-- one more entry copied
+pub copy-turn : (from to : List ℕ) (i : ℕ) → i < length from → i < length to
+    → set (take i from ++ drop i to) i (getD from i 0) ≡ take (i + 1) from ++ drop (i + 1) to
+copy-turn from to i h g =
+    rw (add-one, drop-cons to i 0 g, set-at (take i from) (getD to i 0) (drop (suc i) to) (getD from i 0) i (length-take-le i from (omega arith)), take-suc from i 0 h)
+    (sym (append-snoc (take i from) (getD from i 0) (drop (suc i) to)))
+
+-- a table of 1,024 entries is never refused
+pub own-table : (r : Reply) → r ≡ withTable r 1024
+own-table (reply.Refused x) = refl
+own-table (reply.Judged v) = refl
+
+-- a refused recording
+module _ (ws table : List ℕ) (x : Refused) (e : inferredEnd ws .reply ≡ reply.Refused x) where
+  pub refused-reply : (n : ℕ) → inferredReply ws n ≡ reply.Refused x
+  unfolding inferredReply
+  refused-reply n = rw e
+
+  pub refused-sets : inferredSets ws table ≡ table
+  unfolding inferredSets
+  refused-sets = rw (refused-reply (length table))
+
+-- a judged recording
+module _ (ws table : List ℕ) (v : Verdict) (e : inferredEnd ws .reply ≡ reply.Judged v) where
+  module _ (short : length table < 1024) where
+    pub short-reply : inferredReply ws (length table) ≡ refused refusal.SetTable 1024
+    unfolding inferredReply
+    short-reply = rw (e, lt-ltb (length table) 1024 short)
+
+    pub short-sets : inferredSets ws table ≡ table
+    unfolding inferredSets
+    short-sets = rw short-reply
+
+  module _ (room : 1024 ≤ length table) where
+    pub judged-reply : inferredReply ws (length table) ≡ reply.Judged v
+    unfolding inferredReply
+    judged-reply = rw (e, le-ltb (length table) 1024 room)
+
+    pub judged-sets : inferredSets ws table ≡ inferredEnd ws .sets ++ drop 1024 table
+    unfolding inferredSets
+    judged-sets = rw judged-reply
