@@ -1,5 +1,5 @@
--- The judgement keeps the length of the table of candidate sets.
-use Prim.Native.Nat.{ℕ, _+_}
+-- The judgement keeps the length of the table of candidate sets, and a recording that gets a verdict is short.
+use Prim.Native.Nat.{ℕ, _+_, _≤_}
 use mathlib.Core.Path.{_≡_, refl, _∙_}
 use mathlib.Core.Bool.{Bool, true, false, cond}
 use mathlib.Core.List.{List, [], _∷_}
@@ -11,9 +11,12 @@ use Rattle.frame.specs.declared.Thread.{Thread}
 use Rattle.frame.specs.declared.Lock.{Lock}
 use Rattle.frame.specs.declared.Decoded.{Decoded}
 use Rattle.frame.specs.declared.Decoded.the-variants as decoded
+use native.Mathlib.Omega.{arith}
+use Rattle.reply.specs.declared.Reply.the-variants as reply
 use Rattle.reply.specs.declared.Verdict.{Verdict}
 use Rattle.reply.specs.declared.Verdict.the-variants as verdict
 use Rattle.soundness.specs.Soundness.{State, stepFrame, checkReply, start}
+use Rattle.soundness.proofs.Laws.{sound-fits}
 use Rattle.soundness.specs.declared.Outcome.{Outcome}
 use Rattle.soundness.specs.declared.Outcome.the-variants as outcome
 use Rattle.soundness.specs.declared.CheckReply.{CheckReply}
@@ -76,3 +79,14 @@ checking (check.Refused r) c e p = refl
 pub judgement-length : (guards sets ws : List ℕ) → length (judgement guards sets ws .sets) ≡ length sets
 unfolding judgement startJudging
 judgement-length guards sets ws = checking (checkReply ws) sets _ (judge-length guards 0 start (startJudging sets) ws)
+
+-- a recording that gets a verdict has at most 4,096 frames
+pub judgement-fits : (guards sets ws : List ℕ) (v : Verdict) → judgement guards sets ws .reply ≡ reply.Judged v → length ws ≤ 4096
+unfolding judgement
+judgement-fits guards sets ws v e = go (checkReply ws) refl
+  where
+    go : (q : CheckReply) → checkReply ws ≡ q → length ws ≤ 4096
+    go check.Sound f = sound-fits ws f
+    go (check.Refused r) f =
+        let g : reply.Refused r ≡ reply.Judged v = rw f at e in
+        let z : _≡_ {A = ℕ} 0 1 = cc in absurd (omega arith)

@@ -13,7 +13,12 @@ use Rattle.reply.specs.Reply.{refused}
 use Rattle.reply.specs.declared.Reply.{Reply}
 use Rattle.reply.specs.declared.Reply.the-variants as reply
 use Rattle.reply.specs.declared.Verdict.{Verdict}
-use Rattle.verdict.specs.Verdict.{withTable, inferredEnd, inferredReply, inferredSets}
+use Rattle.guards.specs.Guards.{guardsRead}
+use Rattle.guards.specs.declared.GuardsReply.{GuardsReply}
+use Rattle.guards.specs.declared.GuardsReply.the-variants as guards
+use Rattle.pass.proofs.Sets.{judgement-fits}
+use Rattle.pass.specs.Pass.{fullSets}
+use Rattle.verdict.specs.Verdict.{declaredReply, inferredGuards, withTable, inferredEnd, inferredReply, inferredSets}
 
 -- one more entry copied
 pub copy-turn : (from to : List ℕ) (i : ℕ) → i < length from → i < length to
@@ -56,3 +61,24 @@ module _ (ws table : List ℕ) (v : Verdict) (e : inferredEnd ws .reply ≡ repl
     pub judged-sets : inferredSets ws table ≡ inferredEnd ws .sets ++ drop 1024 table
     unfolding inferredSets
     judged-sets = rw judged-reply
+
+-- a recording that gets a verdict has at most 4,096 frames
+pub declared-fits : (list ws : List ℕ) (v : Verdict) → declaredReply list ws ≡ reply.Judged v → length ws ≤ 4096
+unfolding declaredReply
+declared-fits list ws v e = go (guardsRead list .reply) refl
+  where
+    go : (q : GuardsReply) → guardsRead list .reply ≡ q → length ws ≤ 4096
+    go (guards.Lines n) f = judgement-fits (guardsRead list .table) fullSets ws v (rw f at e)
+    go (guards.Refused x) f =
+        let g : reply.Refused x ≡ reply.Judged v = rw f at e in
+        let z : _≡_ {A = ℕ} 0 1 = cc in absurd (omega arith)
+
+pub inferred-fits : (ws : List ℕ) (n : ℕ) (v : Verdict) → inferredReply ws n ≡ reply.Judged v → length ws ≤ 4096
+unfolding inferredReply
+inferred-fits ws n v e = go (inferredEnd ws .reply) refl
+  where
+    go : (r : Reply) → inferredEnd ws .reply ≡ r → length ws ≤ 4096
+    go (reply.Judged w) f = judgement-fits inferredGuards fullSets ws w f
+    go (reply.Refused x) f =
+        let g : reply.Refused x ≡ reply.Judged v = rw f at e in
+        let z : _≡_ {A = ℕ} 0 1 = cc in absurd (omega arith)

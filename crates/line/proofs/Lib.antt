@@ -1,0 +1,2 @@
+-- Laws of verdict lines that crates above cite.
+pub mod Laws

@@ -1,0 +1,25 @@
+-- Laws of the answers: the kind does not depend on the number of frames, and that number is handed on whole where it is written.
+use Prim.Native.Nat.{ℕ, _%_, _≤_}
+use mathlib.Core.Path.{_≡_, refl, ap}
+use mathlib.Core.List.{List}
+use native.Mathlib.Omega.{arith}
+use Rattle.line.specs.Line.{replyFields, verdictLine}
+use Rattle.line.specs.declared.Fields.{Fields}
+use Rattle.reply.specs.Reply.{reducible}
+use Rattle.reply.specs.declared.Reply.{Reply}
+use Rattle.reply.specs.declared.Reply.the-variants as reply
+use Rattle.reply.specs.declared.Verdict.the-variants as verdict
+use Rattle.trace.specs.Trace.{replyKind}
+
+pub kind-of : (r : Reply) (n : ℕ) → replyFields r n .kind ≡ replyKind r
+kind-of (reply.Refused x) n = refl
+kind-of (reply.Judged verdict.Reducible) n = refl
+kind-of (reply.Judged (verdict.Violated v)) n = refl
+
+-- the number of frames is written where it is at most 4,096
+pub frames-whole : (r : Reply) (n : ℕ) → (r ≡ reducible → n ≤ 4096) → verdictLine r (n % 4294967296) ≡ verdictLine r n
+frames-whole (reply.Refused x) n h = refl
+frames-whole (reply.Judged verdict.Reducible) n h =
+    let l : n ≤ 4096 = h refl in
+    let e : n % 4294967296 ≡ n = omega arith in ap (verdictLine reducible) e
+frames-whole (reply.Judged (verdict.Violated v)) n h = refl

@@ -1,0 +1,65 @@
+/*
+ * The parts of the trace check: text, guard lists, and verdicts on words.
+ *
+ * Every pointer must be valid for its length (counted in elements), aligned for its element type
+ * and not null even if the length is 0. A buffer that is written must not overlap another.
+ * const arguments are only read.
+ *
+ * A uint64_t reply holds the refusal's number in the high 32 bits, 0 if there is none. The low
+ * 32 bits hold the refusal's place, or without one the count answered.
+ */
+#ifndef TRACE_LIBRARY_H
+#define TRACE_LIBRARY_H
+
+#include <stddef.h>
+#include <stdint.h>
+
+#ifdef __cplusplus
+extern "C" {
+#endif
+
+/*
+ * Reads a recording's text: a frame on each line. Frames are not looked at.
+ * Count: the lines; that many words are written, later words keep their contents.
+ * Refusals: 1 a line is not eight digits 0-9 A-F and an LF (place: line); 2 a byte stands after
+ * the 4,096th line (place 4096); after all lines, 3 words_len is below the number of lines
+ * (place: lines). A refusal writes nothing.
+ */
+uint64_t trace_read(const uint8_t *text, size_t text_len, uint32_t *words, size_t words_len);
+
+/*
+ * Checks a guard list: on each line variable (4 digits) and lock (4 digits), then LF.
+ * Count: the lines. Refusals, line by line, place the line: 1 as for text; 11 variable above
+ * 1023 or lock above 63; 12 variable already named.
+ */
+uint64_t trace_guards(const uint8_t *list, size_t list_len);
+
+/*
+ * The verdict with declared guards; a variable that the list does not name is unprotected.
+ * Returns the kind and writes exactly the first 33 bytes of line, the verdict line as described
+ * in trace_check.h. Kinds: 0x00 reducible; 0x01 guard not held; 0x02 unprotected access after
+ * commit; 0x03 acquire after commit; 0x80 + n refusal n.
+ * Refusals in order: 17 line_len is below 33 (returns 0x91, writes nothing); 1, 11, 12 of the
+ * list; 2 words_len is above 4,096; 4 to 10 of the first frame that fails.
+ */
+uint8_t trace_declared(const uint8_t *list, size_t list_len, const uint32_t *words,
+                       size_t words_len, uint8_t *line, size_t line_len);
+
+/*
+ * The verdict with inferred guards. Returns the kind and writes exactly the first 33 bytes of
+ * line. Kinds: 0x00 reducible; 0x03 acquire after commit; 0x04 candidate set emptied;
+ * 0x80 + n refusal n.
+ * Refusals in order: 17 line_len is below 33 (returns 0x91, writes nothing); 2 words_len is
+ * above 4,096; 4 to 10 of the first frame that fails; 16 sets_len is below 1,024 (place 1024).
+ * With a verdict, sets[v] for v from 0 to 1023 becomes variable v's candidate set, bit n for
+ * lock n: after the last frame if reducible, else as before the violating frame. Later entries
+ * keep their contents. A refusal leaves sets as it was.
+ */
+uint8_t trace_inferred(const uint32_t *words, size_t words_len, uint64_t *sets, size_t sets_len,
+                       uint8_t *line, size_t line_len);
+
+#ifdef __cplusplus
+}
+#endif
+
+#endif

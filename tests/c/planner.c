@@ -1,0 +1,268 @@
+/*
+ * Calls the library from C. Every buffer is allocated at its exact size, so that a memory
+ * checker finds any access outside. Expected lines are those of document 01.
+ */
+#include "trace_check.h"
+#include "trace_library.h"
+
+#include <stdio.h>
+#include <stdlib.h>
+#include <string.h>
+
+#define UNTOUCHED 0x5A
+#define REFUSAL(number, place) ((uint64_t)(number) << 32 | (place))
+#define CHECK(condition) check((condition), #condition, __LINE__)
+#define COUNT(array) (sizeof(array) / sizeof(array)[0])
+
+static int checks, failures;
+
+static void check(int holds, const char *condition, int source_line)
+{
+    checks++;
+    if (!holds) {
+        failures++;
+        printf("c: line %d failed: %s\n", source_line, condition);
+    }
+}
+
+static void *allocate(size_t size)
+{
+    void *memory = malloc(size);
+    if (memory == NULL) {
+        printf("c: no memory\n");
+        exit(1);
+    }
+    return memory;
+}
+
+/* A copy of exact size; size may be 0. */
+static void *copy_of(const void *from, size_t size)
+{
+    void *memory = allocate(size);
+    if (size > 0)
+        memcpy(memory, from, size);
+    return memory;
+}
+
+static void *untouched(size_t size)
+{
+    void *memory = allocate(size);
+    if (size > 0)
+        memset(memory, UNTOUCHED, size);
+    return memory;
+}
+
+static int is_untouched(const void *memory, size_t size)
+{
+    const uint8_t *bytes = memory;
+    for (size_t place = 0; place < size; place++)
+        if (bytes[place] != UNTOUCHED)
+            return 0;
+    return 1;
+}
+
+/* The line holds these 32 digits and LF, the rest is untouched. */
+static int holds_line(const uint8_t *line, size_t line_len, const char *digits)
+{
+    return line_len >= 33 && memcmp(line, digits, 32) == 0 && line[32] == '\n' &&
+           is_untouched(line + 33, line_len - 33);
+}
+
+static unsigned kind_of(const char *digits)
+{
+    unsigned kind = 0xFFF;
+    sscanf(digits, "%2X", &kind);
+    return kind;
+}
+
+/* No digits: refusal 17 is expected. */
+static int answers(unsigned kind, const uint8_t *line, size_t line_len, const char *digits)
+{
+    if (digits == NULL)
+        return kind == 0x91 && is_untouched(line, line_len);
+    return kind == kind_of(digits) && holds_line(line, line_len, digits);
+}
+
+static int checks_to(const char *text, size_t line_len, const char *digits)
+{
+    size_t text_len = strlen(text);
+    uint8_t *lent_text = copy_of(text, text_len);
+    uint8_t *line = untouched(line_len);
+    unsigned kind = trace_check(lent_text, text_len, line, line_len);
+    int good = answers(kind, line, line_len, digits) && memcmp(lent_text, text, text_len) == 0;
+    free(line);
+    free(lent_text);
+    return good;
+}
+
+/* On success expected holds the words; otherwise all words stay untouched. */
+static int reads_to(const char *text, size_t words_len, uint64_t reply, const uint32_t *expected)
+{
+    size_t text_len = strlen(text);
+    size_t written = reply >> 32 ? 0 : (size_t)reply;
+    uint8_t *lent_text = copy_of(text, text_len);
+    uint32_t *words = untouched(words_len * sizeof *words);
+    int good = trace_read(lent_text, text_len, words, words_len) == reply;
+    if (written > 0)
+        good = good && memcmp(words, expected, written * sizeof *words) == 0;
+    good = good && is_untouched(words + written, (words_len - written) * sizeof *words);
+    free(words);
+    free(lent_text);
+    return good;
+}
+
+static int guards_to(const char *list, uint64_t reply)
+{
+    size_t list_len = strlen(list);
+    uint8_t *lent_list = copy_of(list, list_len);
+    int good = trace_guards(lent_list, list_len) == reply;
+    free(lent_list);
+    return good;
+}
+
+static int declares_to(const char *list, const uint32_t *words, size_t words_len, size_t line_len,
+                       const char *digits)
+{
+    size_t list_len = strlen(list);
+    uint8_t *lent_list = copy_of(list, list_len);
+    uint32_t *lent_words = copy_of(words, words_len * sizeof *words);
+    uint8_t *line = untouched(line_len);
+    unsigned kind = trace_declared(lent_list, list_len, lent_words, words_len, line, line_len);
+    int good = answers(kind, line, line_len, digits);
+    free(line);
+    free(lent_words);
+    free(lent_list);
+    return good;
+}
+
+/* With a verdict, sets are all locks but for the variable given; otherwise untouched. */
+static int infers_to(const uint32_t *words, size_t words_len, size_t sets_len, size_t line_len,
+                     const char *digits, size_t variable, uint64_t set)
+{
+    uint32_t *lent_words = copy_of(words, words_len * sizeof *words);
+    uint64_t *sets = untouched(sets_len * sizeof *sets);
+    uint8_t *line = untouched(line_len);
+    unsigned kind = trace_inferred(lent_words, words_len, sets, sets_len, line, line_len);
+    int good = answers(kind, line, line_len, digits);
+    size_t written = digits != NULL && kind_of(digits) < 0x80 ? 1024 : 0;
+    for (size_t place = 0; place < written; place++)
+        good = good && sets[place] == (place == variable ? set : UINT64_MAX);
+    good = good && is_untouched(sets + written, (sets_len - written) * sizeof *sets);
+    free(line);
+    free(sets);
+    free(lent_words);
+    return good;
+}
+
+static const char reducible_0[] = "00000000FFFFFFFF0000000000000000";
+static const char text_a[] = "05010000\n01010000\n03010000\n02010000\n"
+                             "01010000\n03010001\n02010000\n06010000\n";
+static const char line_a[] = "03000401000000030000000000000001";
+static const uint32_t words_a[] = {0x05010000, 0x01010000, 0x03010000, 0x02010000,
+                                   0x01010000, 0x03010001, 0x02010000, 0x06010000};
+static const uint32_t words_e[] = {0x05000000, 0x03000005, 0x03000005};
+static const uint32_t words_j[] = {0x01000003, 0x01010003};
+static const uint32_t access_5[] = {0x03000005};
+/* Variable 5 under locks {1,2}, then {2,3}, then {3}. */
+static const uint32_t words_shared[] = {0x01000001, 0x01000002, 0x03000005, 0x02000001,
+                                        0x01000003, 0x04000005, 0x02000002, 0x03000005};
+
+/* 4,096 frames, one more, and a byte more. */
+static void test_longest(void)
+{
+    enum { MOST = 4096 };
+    uint32_t *words = allocate((MOST + 1) * sizeof *words);
+    char *text = allocate(9 * (MOST + 1) + 1);
+    for (size_t place = 0; place <= MOST; place++) {
+        words[place] = place % 2 == 0 ? 0x05000000 : 0x06000000;
+        sprintf(text + 9 * place, "%08X\n", (unsigned)words[place]);
+    }
+    CHECK(checks_to(text, 33, "82100000FFFFFFFF0000000000000000"));
+    CHECK(reads_to(text, MOST, REFUSAL(2, 4096), NULL));
+    text[9 * MOST + 1] = '\0';
+    CHECK(checks_to(text, 33, "82100000FFFFFFFF0000000000000000"));
+    CHECK(reads_to(text, MOST, REFUSAL(2, 4096), NULL));
+    text[9 * MOST] = '\0';
+    CHECK(checks_to(text, 33, "00100000FFFFFFFF0000000000000000"));
+    CHECK(reads_to(text, MOST, MOST, words));
+    CHECK(reads_to(text, MOST - 1, REFUSAL(3, 4096), NULL));
+    text[9 * MOST - 1] = '\0';
+    CHECK(checks_to(text, 33, "810FFF00FFFFFFFF0000000000000000"));
+    CHECK(declares_to("", words, MOST, 33, "00100000FFFFFFFF0000000000000000"));
+    CHECK(declares_to("", words, MOST + 1, 33, "82100000FFFFFFFF0000000000000000"));
+    CHECK(infers_to(words, MOST, 1024, 33, "00100000FFFFFFFF0000000000000000", 0, UINT64_MAX));
+    CHECK(infers_to(words, MOST + 1, 1024, 33, "82100000FFFFFFFF0000000000000000", 0, 0));
+    free(text);
+    free(words);
+}
+
+int main(void)
+{
+    /* trace_check */
+    CHECK(checks_to(text_a, 33, line_a));
+    CHECK(checks_to(text_a, 40, line_a));
+    CHECK(checks_to(text_a, 32, NULL));
+    CHECK(checks_to(text_a, 0, NULL));
+    CHECK(checks_to("x", 32, NULL));
+    CHECK(checks_to("", 33, reducible_0));
+    CHECK(checks_to("", 40, reducible_0));
+    CHECK(checks_to("", 0, NULL));
+    CHECK(checks_to("03000005\n", 33, "04000000FFFFFFFFFFFFFFFFFFFFFFFF"));
+    CHECK(checks_to("01000003\n01010003\n", 40, "87000100FFFFFFFF0000000000000000"));
+    CHECK(checks_to("01000003\n02010003\n", 33, "88000100FFFFFFFF0000000000000000"));
+    CHECK(checks_to("01000040\n", 33, "86000000FFFFFFFF0000000000000000"));
+    CHECK(checks_to("01000003", 33, "81000000FFFFFFFF0000000000000000"));
+    CHECK(checks_to("0", 33, "81000000FFFFFFFF0000000000000000"));
+    CHECK(checks_to("FFFFFFFF\n0500000", 33, "81000100FFFFFFFF0000000000000000"));
+
+    /* trace_read */
+    CHECK(reads_to(text_a, COUNT(words_a), COUNT(words_a), words_a));
+    CHECK(reads_to(text_a, COUNT(words_a) + 3, COUNT(words_a), words_a));
+    CHECK(reads_to(text_a, COUNT(words_a) - 1, REFUSAL(3, 8), NULL));
+    CHECK(reads_to(text_a, 0, REFUSAL(3, 8), NULL));
+    CHECK(reads_to("", 0, 0, NULL));
+    CHECK(reads_to("", 2, 0, NULL));
+    CHECK(reads_to("05000000\n05000000\r\n", 2, REFUSAL(1, 1), NULL));
+    CHECK(reads_to("05000000\n05000000", 2, REFUSAL(1, 1), NULL));
+
+    /* trace_guards */
+    CHECK(guards_to("", 0));
+    CHECK(guards_to("00050002\n03FF003F\n", 2));
+    CHECK(guards_to("00050002\n\n", REFUSAL(1, 1)));
+    CHECK(guards_to("00050002\n00050002", REFUSAL(1, 1)));
+    CHECK(guards_to("04000000\nx", REFUSAL(11, 0)));
+    CHECK(guards_to("00000040\n", REFUSAL(11, 0)));
+    CHECK(guards_to("00050002\n00050003\n", REFUSAL(12, 1)));
+
+    /* trace_declared */
+    CHECK(declares_to("00000000\n00010000\n", words_a, COUNT(words_a), 33, line_a));
+    CHECK(declares_to("", words_e, COUNT(words_e), 40, "02000200000000010000000000000000"));
+    CHECK(declares_to("00050002\n", access_5, 1, 33, "01000000FFFFFFFF0000000000000004"));
+    CHECK(declares_to("", access_5, 1, 33, "00000100FFFFFFFF0000000000000000"));
+    CHECK(declares_to("", access_5, 0, 33, reducible_0));
+    CHECK(declares_to("", words_j, COUNT(words_j), 33, "87000100FFFFFFFF0000000000000000"));
+    CHECK(declares_to("0005000", words_j, COUNT(words_j), 33, "81000000FFFFFFFF0000000000000000"));
+    CHECK(declares_to("04000000\n", words_j, 2, 33, "8B000000FFFFFFFF0000000000000000"));
+    CHECK(declares_to("00050002\n00050002\n", words_j, 2, 33, "8C000100FFFFFFFF0000000000000000"));
+    CHECK(declares_to("x", words_j, COUNT(words_j), 32, NULL));
+    CHECK(declares_to("", words_a, COUNT(words_a), 0, NULL));
+
+    /* trace_inferred */
+    CHECK(infers_to(words_a, COUNT(words_a), 1024, 33, line_a, 0, 1));
+    CHECK(infers_to(words_a, COUNT(words_a), 1030, 40, line_a, 0, 1));
+    CHECK(infers_to(words_a, 0, 1024, 33, reducible_0, 0, UINT64_MAX));
+    CHECK(infers_to(words_shared, 6, 1024, 33, "00000600FFFFFFFF0000000000000000", 5, 4));
+    CHECK(infers_to(words_shared, 8, 1024, 33, "04000700FFFFFFFF0000000000000004", 5, 4));
+    CHECK(infers_to(words_j, COUNT(words_j), 1024, 33, "87000100FFFFFFFF0000000000000000", 0, 0));
+    CHECK(infers_to(words_j, COUNT(words_j), 0, 33, "87000100FFFFFFFF0000000000000000", 0, 0));
+    CHECK(infers_to(words_a, COUNT(words_a), 1023, 33, "90040000FFFFFFFF0000000000000000", 0, 0));
+    CHECK(infers_to(words_a, 0, 0, 33, "90040000FFFFFFFF0000000000000000", 0, 0));
+    CHECK(infers_to(words_a, COUNT(words_a), 1024, 32, NULL, 0, 0));
+    CHECK(infers_to(words_j, COUNT(words_j), 1023, 0, NULL, 0, 0));
+
+    test_longest();
+    if (failures > 0)
+        return 1;
+    printf("c: %d checks\n", checks);
+    return 0;
+}

@@ -1,0 +1,833 @@
+//! Compares the archive with the reference checker: literal cases of document 01, then many
+//! seeded random cases. Every reply and every lent buffer is compared whole.
+//! Arguments: an optional seed.
+
+use std::process::exit;
+use trace_tests::random::{self, text_of_words, Plan, Random};
+use trace_tests::{check, declared, guards, inferred, plain, read, LINE_BYTES, VARIABLES};
+
+#[path = "../ffi.rs"]
+mod ffi;
+
+const DEFAULT_SEED: u64 = 1;
+const CHECK_CASES: usize = 200_000;
+const OTHER_CASES: usize = 60_000;
+/// One case of so many is about the limit of 4,096 frames.
+const LONG_EVERY: usize = 400;
+/// Elements on both sides of each buffer, which no call may touch.
+const MARGIN: usize = 16;
+
+struct Calls {
+    name: &'static str,
+    check: fn(&[u8], &mut [u8]) -> u8,
+    read: fn(&[u8], &mut [u32]) -> u64,
+    guards: fn(&[u8]) -> u64,
+    declared: fn(&[u8], &[u32], &mut [u8]) -> u8,
+    inferred: fn(&[u32], &mut [u64], &mut [u8]) -> u8,
+}
+
+const REFERENCE: Calls = Calls {
+    name: "reference",
+    check,
+    read,
+    guards,
+    declared,
+    inferred,
+};
+
+const LIBRARY: Calls = Calls {
+    name: "library",
+    check: ffi::check,
+    read: ffi::read,
+    guards: ffi::guards,
+    declared: ffi::declared,
+    inferred: ffi::inferred,
+};
+
+/// Only `check` is its own.
+const PLAIN: Calls = Calls {
+    name: "plain Rust",
+    check: plain::check,
+    ..REFERENCE
+};
+
+// Cases and outcomes.
+
+#[derive(Clone, Copy, PartialEq)]
+enum Family {
+    Check,
+    Read,
+    Guards,
+    Declared,
+    Inferred,
+}
+
+/// The input and the lengths of the lent buffers; a family ignores what it does not take.
+#[derive(Clone)]
+struct Case {
+    family: Family,
+    /// Recording text, or guard list.
+    text: Vec<u8>,
+    frames: Vec<u32>,
+    line_len: usize,
+    words_len: usize,
+    sets_len: usize,
+    /// Decides the contents of the lent buffers before the call.
+    fill: u64,
+}
+
+#[derive(PartialEq)]
+struct Outcome {
+    reply: u64,
+    line: Vec<u8>,
+    words: Vec<u32>,
+    sets: Vec<u64>,
+    input_kept: bool,
+}
+
+/// A buffer with margins and random contents.
+fn filled<T>(random: &mut Random, len: usize, of: fn(u64) -> T) -> Vec<T> {
+    (0..len + 2 * MARGIN).map(|_| of(random.draw())).collect()
+}
+
+/// The part of a buffer that is lent.
+fn slot<T>(buffer: &mut [T]) -> &mut [T] {
+    let end = buffer.len() - MARGIN;
+    &mut buffer[MARGIN..end]
+}
+
+impl Case {
+    fn new(family: Family) -> Case {
+        Case {
+            family,
+            text: Vec::new(),
+            frames: Vec::new(),
+            line_len: LINE_BYTES,
+            words_len: 0,
+            sets_len: VARIABLES,
+            fill: 0,
+        }
+    }
+
+    fn run(&self, calls: &Calls) -> Outcome {
+        let random = &mut Random::new(self.fill);
+        // The input starts at any alignment that its type allows.
+        let skip = random.below(MARGIN);
+        let text = [vec![b'0'; skip], self.text.clone()].concat();
+        let frames = [vec![0; skip], self.frames.clone()].concat();
+        let (text_in, frames_in) = (&text[skip..], &frames[skip..]);
+        let uses = |families: &[Family], len| {
+            if families.contains(&self.family) {
+                len
+            } else {
+                0
+            }
+        };
+        let line_users = [Family::Check, Family::Declared, Family::Inferred];
+        let mut line = filled(random, uses(&line_users, self.line_len), |x| x as u8);
+        let mut words = filled(random, uses(&[Family::Read], self.words_len), |x| x as u32);
+        let mut sets = filled(random, uses(&[Family::Inferred], self.sets_len), |x| x);
+        let reply = match self.family {
+            Family::Check => (calls.check)(text_in, slot(&mut line)).into(),
+            Family::Read => (calls.read)(text_in, slot(&mut words)),
+            Family::Guards => (calls.guards)(text_in),
+            Family::Declared => (calls.declared)(text_in, frames_in, slot(&mut line)).into(),
+            Family::Inferred => {
+                (calls.inferred)(frames_in, slot(&mut sets), slot(&mut line)).into()
+            }
+        };
+        let (text, frames) = std::hint::black_box((text, frames));
+        Outcome {
+            reply,
+            line,
+            words,
+            sets,
+            input_kept: text[skip..] == self.text && frames[skip..] == self.frames,
+        }
+    }
+
+    fn print(&self) {
+        println!("call {}", NAMES[self.family as usize]);
+        println!("text \"{}\"", self.text.escape_ascii());
+        println!("frames {:08X?}", self.frames);
+        let (line, words, sets) = (self.line_len, self.words_len, self.sets_len);
+        println!(
+            "lengths: line {line}, words {words}, sets {sets}; fill {}",
+            self.fill
+        );
+    }
+
+    /// The outcome of the reference, which the library must share.
+    fn compare(&self) -> Outcome {
+        let expected = self.run(&REFERENCE);
+        for calls in [&LIBRARY, &PLAIN] {
+            let outcome = self.run(calls);
+            if outcome != expected {
+                println!("MISMATCH between reference and {}", calls.name);
+                self.print();
+                expected.print(REFERENCE.name);
+                outcome.print(calls.name);
+                exit(1);
+            }
+            if self.family != Family::Check {
+                break;
+            }
+        }
+        expected
+    }
+}
+
+impl Outcome {
+    fn print(&self, name: &str) {
+        println!(
+            "{name}: reply {:X}, input kept: {}",
+            self.reply, self.input_kept
+        );
+        println!("  line with margins \"{}\"", self.line.escape_ascii());
+        println!("  words with margins {:08X?}", self.words);
+        println!("  sets with margins {:X?}", self.sets);
+    }
+}
+
+// Literal cases.
+
+/// Text of words parted by spaces.
+fn text(words: &str) -> Vec<u8> {
+    words
+        .split_whitespace()
+        .flat_map(|word| [word.as_bytes(), b"\n"].concat())
+        .collect()
+}
+
+fn frames(words: &str) -> Vec<u32> {
+    let read = |word| u32::from_str_radix(word, 16).expect("eight digits");
+    words.split_whitespace().map(read).collect()
+}
+
+#[derive(Default)]
+struct Literals {
+    checked: usize,
+}
+
+impl Literals {
+    /// Each implementation must give this reply and hold for `sound`.
+    fn expect(&mut self, case: Case, reply: u64, sound: &dyn Fn(&Outcome, &Outcome) -> bool) {
+        self.checked += 1;
+        // No call at all: the buffers as they were lent.
+        let untouched = case.run(&Calls {
+            check: |_, _| 0,
+            read: |_, _| 0,
+            guards: |_| 0,
+            declared: |_, _, _| 0,
+            inferred: |_, _, _| 0,
+            name: "untouched",
+        });
+        for calls in [&REFERENCE, &PLAIN, &LIBRARY] {
+            let outcome = case.run(calls);
+            if outcome.reply != reply || !outcome.input_kept || !sound(&outcome, &untouched) {
+                println!(
+                    "LITERAL CASE {}: {} differs, expected reply {reply:X}",
+                    self.checked, calls.name
+                );
+                case.print();
+                case.run(&REFERENCE).print(REFERENCE.name);
+                outcome.print(calls.name);
+                exit(1);
+            }
+        }
+    }
+
+    /// A verdict line of 32 digits; sets are as given, or untouched.
+    fn expect_line(&mut self, case: Case, line: &str, sets: Option<&[u64; VARIABLES]>) {
+        let kind = u64::from_str_radix(&line[..2], 16).expect("two digits");
+        self.expect(case, kind, &|outcome, before| {
+            let mut line_after = before.line.clone();
+            line_after[MARGIN..][..LINE_BYTES].copy_from_slice(format!("{line}\n").as_bytes());
+            let mut sets_after = before.sets.clone();
+            if let Some(sets) = sets {
+                sets_after[MARGIN..][..VARIABLES].copy_from_slice(sets);
+            }
+            outcome.line == line_after && outcome.sets == sets_after
+        });
+    }
+
+    fn check(&mut self, text: &[u8], line: &str) {
+        for line_len in [33, 34, 64] {
+            let mut case = Case::new(Family::Check);
+            (case.text, case.line_len) = (text.to_vec(), line_len);
+            self.expect_line(case, line, None);
+        }
+    }
+
+    fn declared(&mut self, list: &str, words: &str, line: &str) {
+        self.declared_raw(&text(list), &frames(words), line);
+    }
+
+    fn declared_raw(&mut self, list: &[u8], frames: &[u32], line: &str) {
+        let mut case = Case::new(Family::Declared);
+        (case.text, case.frames) = (list.to_vec(), frames.to_vec());
+        self.expect_line(case, line, None);
+    }
+
+    /// The same recording through `trace_check` and `trace_inferred`; `sets` names the final
+    /// candidate sets that are not all locks.
+    fn inferred(&mut self, words: &str, line: &str, sets: &[(usize, u64)]) {
+        self.inferred_raw(&frames(words), line, sets);
+    }
+
+    fn inferred_raw(&mut self, frames: &[u32], line: &str, sets: &[(usize, u64)]) {
+        self.check(&text_of_words(frames), line);
+        let mut table = [u64::MAX; VARIABLES];
+        for &(variable, set) in sets {
+            table[variable] = set;
+        }
+        for sets_len in [1024, 1030] {
+            let mut case = Case::new(Family::Inferred);
+            (case.frames, case.sets_len) = (frames.to_vec(), sets_len);
+            let refused = line.as_bytes()[0] == b'8' || line.as_bytes()[0] == b'9';
+            self.expect_line(case, line, (!refused).then_some(&table));
+        }
+    }
+
+    /// The recording's soundness is the same with declared guards.
+    fn refused(&mut self, words: &str, line: &str) {
+        self.inferred(words, line, &[]);
+        self.declared("", words, line);
+        self.declared("00050002", words, line);
+    }
+
+    fn read(&mut self, text: &[u8], words_len: usize, reply: u64, words: &[u32]) {
+        let mut case = Case::new(Family::Read);
+        (case.text, case.words_len) = (text.to_vec(), words_len);
+        self.expect(case, reply, &|outcome, before| {
+            let mut words_after = before.words.clone();
+            words_after[MARGIN..][..words.len()].copy_from_slice(words);
+            outcome.words == words_after
+        });
+    }
+
+    fn guards(&mut self, list: &[u8], reply: u64) {
+        let mut case = Case::new(Family::Guards);
+        case.text = list.to_vec();
+        self.expect(case, reply, &|_, _| true);
+    }
+
+    /// Refusal 17 comes first, whatever the input; nothing is written.
+    fn short_line(&mut self, mut case: Case) {
+        for line_len in [0, 1, 32] {
+            case.line_len = line_len;
+            self.expect(case.clone(), 0x91, &|outcome, before| {
+                outcome.line == before.line && outcome.sets == before.sets
+            });
+        }
+    }
+}
+
+fn bench_recordings(to: &mut Literals) {
+    // A
+    let a = "05010000 01010000 03010000 02010000 01010000 03010001 02010000 06010000";
+    to.inferred(a, "03000401000000030000000000000001", &[(0, 1)]);
+    to.declared("00000000 00010000", a, "03000401000000030000000000000001");
+    // B
+    to.inferred("", "00000000FFFFFFFF0000000000000000", &[]);
+    to.declared("", "", "00000000FFFFFFFF0000000000000000");
+    // C
+    let c = "05000000 05010000 01000000 04000000 02000000 01010000 04010000 06000000 \
+             02010000 06010000";
+    to.inferred(c, "00000A00FFFFFFFF0000000000000000", &[(0, 1)]);
+    // D
+    to.inferred("03000005", "04000000FFFFFFFFFFFFFFFFFFFFFFFF", &[]);
+    to.declared("", "03000005", "00000100FFFFFFFF0000000000000000");
+    // E, F, G
+    to.declared(
+        "",
+        "05000000 03000005 03000005",
+        "02000200000000010000000000000000",
+    );
+    to.declared(
+        "",
+        "05000000 03000005 06000000",
+        "00000300FFFFFFFF0000000000000000",
+    );
+    to.declared("00050002", "03000005", "01000000FFFFFFFF0000000000000004");
+    // J; H and I concern equality alone
+    to.refused("01000003 01010003", "87000100FFFFFFFF0000000000000000");
+    to.refused("01000003 02010003", "88000100FFFFFFFF0000000000000000");
+    // Variable 5 under locks {1,2}, then {2,3}, then {3}
+    let shared = "01000001 01000002 03000005 02000001 01000003 04000005";
+    to.inferred(shared, "00000600FFFFFFFF0000000000000000", &[(5, 4)]);
+    let emptied = format!("{shared} 02000002 03000005");
+    to.inferred(&emptied, "04000700FFFFFFFF0000000000000004", &[(5, 4)]);
+    // Begin alone
+    to.inferred("05000000", "00000100FFFFFFFF0000000000000000", &[]);
+    to.declared("", "05000000", "00000100FFFFFFFF0000000000000000");
+}
+
+fn hidden_faults(to: &mut Literals) {
+    // An access of a guarded variable commits nothing.
+    let guarded = "05000000 01000000 03000005 01000001 02000000 02000001 06000000";
+    to.inferred(guarded, "00000700FFFFFFFF0000000000000000", &[(5, 1)]);
+    to.declared("00050000", guarded, "00000700FFFFFFFF0000000000000000");
+    to.declared("", guarded, "03000300000000020000000000000002");
+    // Begin is the outermost one, and the inner end leaves the block open.
+    let nested = "01020007 05020000 05020000 02020007 06020000 0102003F";
+    to.inferred(nested, "03000502000100038000000000000000", &[]);
+    let closed = "05020000 05020000 06020000 06020000 01020007 02020007 0102003F";
+    to.inferred(closed, "00000700FFFFFFFF0000000000000000", &[]);
+    // A second release keeps the first commit; the next block starts anew.
+    let releases = "01000000 01000001 05000000 02000000 02000001 01000002";
+    to.inferred(releases, "03000500000200030000000000000004", &[]);
+    let again = "01000000 05000000 02000000 06000000 05000000 01000000";
+    to.inferred(again, "00000600FFFFFFFF0000000000000000", &[]);
+    let units = "05000000 05010000 03010000 06010000 03000000 06000000";
+    to.declared("", units, "00000600FFFFFFFF0000000000000000");
+    // Outside a block an unprotected access is free and commits nothing.
+    let free = "03000005 03000005 01000000 05000000 01000001";
+    to.declared("", free, "00000500FFFFFFFF0000000000000000");
+    // Begin absent, begin alone, begin and commit: kinds 4 and 1.
+    to.inferred("05000000 03000005", "040001000000FFFFFFFFFFFFFFFFFFFF", &[]);
+    let after = "01000000 05000000 02000000 03000005";
+    to.inferred(after, "0400030000010002FFFFFFFFFFFFFFFF", &[]);
+    to.declared(
+        "0005003F",
+        "05000000 03000005",
+        "010001000000FFFF8000000000000000",
+    );
+    to.declared("0005003F", after, "01000300000100028000000000000000");
+    // Another thread's lock does not guard.
+    to.declared(
+        "00050000",
+        "01010000 03000005",
+        "01000100FFFFFFFF0000000000000001",
+    );
+    to.inferred("01010000 03000005", "04000100FFFFFFFFFFFFFFFFFFFFFFFF", &[]);
+}
+
+fn frame_boundaries(to: &mut Literals) {
+    // 4
+    to.refused("00000000", "84000000FFFFFFFF0000000000000000");
+    to.refused("07000000", "84000000FFFFFFFF0000000000000000");
+    to.refused("FFFFFFFF", "84000000FFFFFFFF0000000000000000");
+    to.inferred("01000000 02000000", "00000200FFFFFFFF0000000000000000", &[]);
+    to.inferred("05000000 06000000", "00000200FFFFFFFF0000000000000000", &[]);
+    // 5
+    to.inferred("051F0000", "00000100FFFFFFFF0000000000000000", &[]);
+    to.inferred("031F0000", "0400001FFFFFFFFFFFFFFFFFFFFFFFFF", &[]);
+    to.refused("05200000", "85000000FFFFFFFF0000000000000000");
+    to.refused("01FFFFFF", "85000000FFFFFFFF0000000000000000");
+    // 6
+    to.inferred("0100003F 0200003F", "00000200FFFFFFFF0000000000000000", &[]);
+    to.refused("01000040", "86000000FFFFFFFF0000000000000000");
+    to.refused("02000040", "86000000FFFFFFFF0000000000000000");
+    let last = "0100003F 030003FF 040003FF";
+    to.inferred(last, "00000300FFFFFFFF0000000000000000", &[(1023, 1 << 63)]);
+    to.refused("03000400", "86000000FFFFFFFF0000000000000000");
+    to.refused("04000400", "86000000FFFFFFFF0000000000000000");
+    to.refused("05000001", "86000000FFFFFFFF0000000000000000");
+    to.refused("06000001", "86000000FFFFFFFF0000000000000000");
+    to.refused("0100FFFF", "86000000FFFFFFFF0000000000000000");
+    // 7
+    to.refused("01000003 01000003", "87000100FFFFFFFF0000000000000000");
+    to.inferred(
+        "01000003 02000003 01010003",
+        "00000300FFFFFFFF0000000000000000",
+        &[],
+    );
+    to.inferred("01000003 01010004", "00000200FFFFFFFF0000000000000000", &[]);
+    // 8
+    to.refused("02000003", "88000000FFFFFFFF0000000000000000");
+    to.refused(
+        "01000003 02000003 02000003",
+        "88000200FFFFFFFF0000000000000000",
+    );
+    to.inferred("01000003 02000003", "00000200FFFFFFFF0000000000000000", &[]);
+    // 9
+    let fifteen = "05000000 ".repeat(15);
+    to.inferred(&fifteen, "00000F00FFFFFFFF0000000000000000", &[]);
+    to.refused(
+        &format!("{fifteen} 05000000"),
+        "89000F00FFFFFFFF0000000000000000",
+    );
+    let other = format!("{fifteen} 05010000 06000000 05000000");
+    to.inferred(&other, "00001200FFFFFFFF0000000000000000", &[]);
+    // 10
+    to.refused("06000000", "8A000000FFFFFFFF0000000000000000");
+    to.refused("05000000 06010000", "8A000100FFFFFFFF0000000000000000");
+    let one_more = "05000000 05000000 06000000 06000000 06000000";
+    to.refused(one_more, "8A000400FFFFFFFF0000000000000000");
+    // 2
+    let most = [0x0500_0000, 0x0600_0000].repeat(2048);
+    to.inferred_raw(&most, "00100000FFFFFFFF0000000000000000", &[]);
+    to.declared_raw(b"", &most, "00100000FFFFFFFF0000000000000000");
+    let more = [most.as_slice(), &[0x0500_0000]].concat();
+    to.inferred_raw(&more, "82100000FFFFFFFF0000000000000000", &[]);
+    to.declared_raw(b"", &more, "82100000FFFFFFFF0000000000000000");
+}
+
+fn order_of_refusals(to: &mut Literals) {
+    // The first frame that fails decides; in one frame the lowest number.
+    to.refused("02000000 FFFFFFFF", "88000000FFFFFFFF0000000000000000");
+    to.refused("05000000 06200001", "85000100FFFFFFFF0000000000000000");
+    to.refused(
+        "05000000 06000000 06000001",
+        "86000200FFFFFFFF0000000000000000",
+    );
+    // A refusal wins over an earlier violation.
+    to.inferred("03000005 06000000", "8A000100FFFFFFFF0000000000000000", &[]);
+    to.declared(
+        "00050002",
+        "03000005 FFFFFFFF",
+        "84000100FFFFFFFF0000000000000000",
+    );
+    // All lines come before any frame.
+    to.check(b"FFFFFFFF\nx", "81000100FFFFFFFF0000000000000000");
+    to.check(b"FFFFFFFF\n0000000\n", "81000100FFFFFFFF0000000000000000");
+    // More than 4,096 words come before their frames.
+    let more = [0xFFFF_FFFF; 4097];
+    to.inferred_raw(&more, "82100000FFFFFFFF0000000000000000", &[]);
+    // The guard list comes before the recording.
+    to.declared("04000000", "FFFFFFFF", "8B000000FFFFFFFF0000000000000000");
+    to.declared_raw(b"00050002", &more, "81000000FFFFFFFF0000000000000000");
+    to.declared(
+        "00050002 00050002",
+        "FFFFFFFF",
+        "8C000100FFFFFFFF0000000000000000",
+    );
+    // 16 comes after the recording and before the verdict.
+    for (words, sets_len, line) in [
+        ("", 0, "90040000FFFFFFFF0000000000000000"),
+        ("", 1023, "90040000FFFFFFFF0000000000000000"),
+        ("03000005", 1023, "90040000FFFFFFFF0000000000000000"),
+        (
+            "03000005 FFFFFFFF",
+            1023,
+            "84000100FFFFFFFF0000000000000000",
+        ),
+        ("02000005", 0, "88000000FFFFFFFF0000000000000000"),
+    ] {
+        let mut case = Case::new(Family::Inferred);
+        (case.frames, case.sets_len) = (frames(words), sets_len);
+        to.expect_line(case, line, None);
+    }
+    let mut case = Case::new(Family::Inferred);
+    (case.frames, case.sets_len) = (more.to_vec(), 0);
+    to.expect_line(case, "82100000FFFFFFFF0000000000000000", None);
+    // 17 comes first of all.
+    for input in ["", "05000000\n", "FFFFFFFF\n", "x"] {
+        for family in [Family::Check, Family::Declared, Family::Inferred] {
+            let mut case = Case::new(family);
+            case.text = input.into();
+            case.sets_len = 1023;
+            case.frames = more.to_vec();
+            to.short_line(case.clone());
+            case.sets_len = 1024;
+            case.frames = frames("03000005");
+            to.short_line(case);
+        }
+    }
+}
+
+fn lines_and_lists(to: &mut Literals) {
+    // 1: each byte of a line at the edges of the digits.
+    let refused_0 = "81000000FFFFFFFF0000000000000000";
+    for place in 0..8 {
+        for byte in *b"/:@G`afg\n\r \0\xFF" {
+            let mut line = *b"05000000\n";
+            line[place] = byte;
+            to.check(&line, refused_0);
+            to.read(&line, 1, 1 << 32, &[]);
+            to.guards(&line, 1 << 32);
+            to.declared_raw(&line, &[], refused_0);
+        }
+    }
+    to.read(b"09AF90FA\n", 1, 1, &[0x09AF_90FA]);
+    to.read(b"12345678\n9ABCDEF0\n", 2, 2, &[0x1234_5678, 0x9ABC_DEF0]);
+    to.read(b"FFFFFFFF\n", 3, 1, &[0xFFFF_FFFF]);
+    for line in [
+        &b"05000000"[..],
+        b"05000000\r",
+        b"05000000\r\n",
+        b"05000000x",
+        b"0",
+        b"\n",
+    ] {
+        to.check(line, refused_0);
+        to.read(line, 9, 1 << 32, &[]);
+        to.guards(line, 1 << 32);
+        let second = [b"05000000\n", line].concat();
+        to.check(&second, "81000100FFFFFFFF0000000000000000");
+        to.read(&second, 9, 1 << 32 | 1, &[]);
+        to.guards(&second, 11 << 32);
+    }
+    to.check(
+        b"05000000\n\n06000000\n",
+        "81000100FFFFFFFF0000000000000000",
+    );
+    // 2
+    let most = text_of_words(&[0x0500_0000, 0x0600_0000].repeat(2048));
+    for extra in [&b"x"[..], b"\n", b"05000000\n", b"05000000"] {
+        let more = [&most, extra].concat();
+        to.check(&more, "82100000FFFFFFFF0000000000000000");
+        to.read(&more, 0, 2 << 32 | 4096, &[]);
+        let mut faulty = more.clone();
+        faulty[4095 * 9] = b'a';
+        to.check(&faulty, "810FFF00FFFFFFFF0000000000000000");
+        to.read(&faulty, 4096, 1 << 32 | 4095, &[]);
+    }
+    // 3 comes after all lines.
+    to.read(b"", 0, 0, &[]);
+    to.read(b"05000000\n06000000\n", 1, 3 << 32 | 2, &[]);
+    to.read(b"05000000\n06000000\n", 0, 3 << 32 | 2, &[]);
+    to.read(b"05000000\n06000000\n", 2, 2, &[0x0500_0000, 0x0600_0000]);
+    to.read(b"05000000\n06000000\nx", 0, 1 << 32 | 2, &[]);
+    to.read(&most, 4095, 3 << 32 | 4096, &[]);
+    to.read(&most, 4096, 4096, &[0x0500_0000, 0x0600_0000].repeat(2048));
+    // 11 and 12
+    to.guards(b"", 0);
+    to.guards(&text("03FF003F"), 1);
+    to.guards(&text("04000000"), 11 << 32);
+    to.guards(&text("00000040"), 11 << 32);
+    to.guards(b"04000000\nx", 11 << 32);
+    to.guards(b"0400000a\n", 1 << 32);
+    to.guards(&text("00050001 00060001"), 2);
+    to.guards(&text("00050001 00050001"), 12 << 32 | 1);
+    to.guards(&text("00050001 00060001 00050002"), 12 << 32 | 2);
+    to.guards(&text("00050001 00050040"), 11 << 32 | 1);
+    to.guards(b"00050001\n00050001\nx", 12 << 32 | 1);
+    to.guards(b"00050001\n00050001", 1 << 32 | 1);
+    let whole: Vec<u32> = (0..1024)
+        .rev()
+        .map(|variable| variable << 16 | 63)
+        .collect();
+    let whole = text_of_words(&whole);
+    to.guards(&whole, 1024);
+    to.guards(&[&whole, &b"00000000\n"[..]].concat(), 12 << 32 | 1024);
+    to.guards(&[&whole, &b"04000000\n"[..]].concat(), 11 << 32 | 1024);
+    to.guards(&[&whole, &b"\n"[..]].concat(), 1 << 32 | 1024);
+}
+
+// Random cases.
+
+fn small_plan(random: &mut Random, unprotected: usize) -> Plan {
+    Plan {
+        threads: random.between(1, 4),
+        locks: random.between(1, 5),
+        variables: random.between(1, 5),
+        frames: random.pick(&[10, 60, 60, 200]) * random.below(1001) / 1000,
+        nesting: random.pick(&[1, 2, 2, 3, 30]),
+        unprotected,
+        careless: random.pick(&[0, 0, 10, 50, 300]),
+        wild: random.pick(&[0, 0, 20, 100]),
+    }
+}
+
+fn long_plan(random: &mut Random, unprotected: usize) -> Plan {
+    Plan {
+        threads: random.between(1, 32),
+        locks: random.between(1, 64),
+        variables: random.between(1, 1024),
+        frames: random.between(4090, 4100),
+        nesting: random.between(1, 3),
+        unprotected,
+        careless: random.pick(&[0, 0, 0, 1]),
+        wild: random.pick(&[0, 0, 0, 1]),
+    }
+}
+
+fn random_recording(random: &mut Random, family: Family, long: bool) -> random::Recording {
+    // Unprotected variables belong to declared guards; elsewhere they are soon a violation.
+    let unprotected = match family {
+        Family::Guards | Family::Declared => random.pick(&[0, 100, 300, 1000]),
+        _ => random.pick(&[0, 0, 0, 0, 0, 100]),
+    };
+    let plan = if long {
+        long_plan(random, unprotected)
+    } else {
+        small_plan(random, unprotected)
+    };
+    let mut made = random::recording(random, &plan);
+    if !long && random.chance(100) {
+        made.words = (0..random.below(12))
+            .map(|_| random::edge_word(random))
+            .collect();
+    } else if !long && random.chance(20) {
+        made.words = (0..random.below(12))
+            .map(|_| random.draw() as u32)
+            .collect();
+    } else if long && random.chance(200) {
+        *made.words.last_mut().expect("long") = random::edge_word(random);
+    }
+    made
+}
+
+fn random_text(random: &mut Random, family: Family, long: bool) -> Vec<u8> {
+    let mut text = text_of_words(&random_recording(random, family, long).words);
+    if random.chance(300) {
+        random::damage_text(random, &mut text);
+    } else if random.chance(20) {
+        text = (0..random.below(40))
+            .map(|_| random.pick(b"0123ABCF\n\n\n\rf"))
+            .collect();
+    } else if long && random.chance(300) {
+        text.truncate(9 * 4096);
+        let extra: [&[u8]; 5] = [b"", b"x", b"\n", b"05000000\n", b"05000000"];
+        text.extend(random.pick(&extra));
+    }
+    text
+}
+
+fn random_list(random: &mut Random, guards: &[(u32, Option<u32>)]) -> Vec<u8> {
+    let mut words = random::guard_words(random, guards);
+    if random.chance(150) {
+        random::damage_guards(random, &mut words);
+    }
+    let mut list = text_of_words(&words);
+    if random.chance(80) {
+        random::damage_text(random, &mut list);
+    }
+    list
+}
+
+fn random_case(random: &mut Random, family: Family, long: bool) -> Case {
+    let mut case = Case::new(family);
+    case.fill = random.draw();
+    case.line_len = match random.chance(60) {
+        true => random.between(0, 32),
+        false => random.between(33, 64),
+    };
+    case.sets_len = match random.below(10) {
+        0 => random.pick(&[0, 1, 1022, 1023]),
+        1 => random.between(1025, 1100),
+        _ => 1024,
+    };
+    match family {
+        Family::Check => case.text = random_text(random, family, long),
+        Family::Read => {
+            case.text = random_text(random, family, long);
+            let lines = case.text.len() / 9;
+            case.words_len = match random.below(4) {
+                0 => random.between(0, lines),
+                1 => lines,
+                2 => lines.saturating_sub(1),
+                _ => lines + random.below(20),
+            };
+        }
+        Family::Guards => {
+            let made = random_recording(random, family, long);
+            case.text = random_list(random, &made.guards);
+        }
+        Family::Declared => {
+            let made = random_recording(random, family, long);
+            case.text = random_list(random, &made.guards);
+            case.frames = made.words;
+        }
+        Family::Inferred => case.frames = random_recording(random, family, long).words,
+    }
+    case
+}
+
+// Counts.
+
+const NAMES: [&str; 5] = ["check", "read", "guards", "declared", "inferred"];
+const FAMILIES: [Family; 5] = [
+    Family::Check,
+    Family::Read,
+    Family::Guards,
+    Family::Declared,
+    Family::Inferred,
+];
+
+/// Kinds and refusals that can occur, per call. Kind 0 of read and guards: accepted.
+const POSSIBLE: [(&[usize], &[usize]); 5] = [
+    (&[0, 3, 4], &[1, 2, 4, 5, 6, 7, 8, 9, 10, 17]),
+    (&[0], &[1, 2, 3]),
+    (&[0], &[1, 11, 12]),
+    (&[0, 1, 2, 3], &[1, 2, 4, 5, 6, 7, 8, 9, 10, 11, 12, 17]),
+    (&[0, 3, 4], &[2, 4, 5, 6, 7, 8, 9, 10, 16, 17]),
+];
+
+#[derive(Default)]
+struct Tally {
+    cases: usize,
+    kinds: [usize; 5],
+    refusals: [usize; 18],
+    /// Violations of kind 1 or 4 with begin absent, begin alone, begin and commit.
+    shapes: [usize; 3],
+}
+
+impl Tally {
+    fn count(&mut self, family: Family, outcome: &Outcome) {
+        self.cases += 1;
+        let reply = outcome.reply;
+        let (kind, refusal) = match family {
+            Family::Read | Family::Guards => (0, (reply >> 32) as usize),
+            _ if reply >= 0x80 => (0, reply as usize - 0x80),
+            _ => (reply as usize, 0),
+        };
+        match refusal {
+            0 => self.kinds[kind] += 1,
+            _ => self.refusals[refusal] += 1,
+        }
+        if kind == 1 || kind == 4 {
+            let places = &outcome.line[MARGIN + 8..MARGIN + 16];
+            let present = |place: &[u8]| usize::from(place != b"FFFF");
+            self.shapes[present(&places[..4]) + present(&places[4..])] += 1;
+        }
+    }
+
+    /// Prints the counts; false if something that can occur is absent.
+    fn report(&self, family: Family) -> bool {
+        let (kinds, refusals) = POSSIBLE[family as usize];
+        let shown = |label: &str, of: &[usize], counts: &[usize]| {
+            let each: Vec<String> = of.iter().map(|&n| format!("{n}: {}", counts[n])).collect();
+            println!("  {label} {}", each.join(", "));
+            of.iter().all(|&n| counts[n] > 0)
+        };
+        println!("{}: {} cases", NAMES[family as usize], self.cases);
+        let mut complete = shown("kinds   ", kinds, &self.kinds);
+        complete &= shown("refusals", refusals, &self.refusals);
+        if kinds.contains(&1) || kinds.contains(&4) {
+            let [absent, alone, both] = self.shapes;
+            println!("  kind 1 or 4 outside: {absent}, before commit: {alone}, after: {both}");
+            complete &= !self.shapes.contains(&0);
+        }
+        if !complete {
+            println!("  FAILED: something that can occur did not");
+        }
+        complete
+    }
+}
+
+fn main() {
+    let seed = match std::env::args().nth(1) {
+        Some(argument) => argument.parse().expect("the seed is a number"),
+        None => DEFAULT_SEED,
+    };
+    let mut literals = Literals::default();
+    bench_recordings(&mut literals);
+    hidden_faults(&mut literals);
+    frame_boundaries(&mut literals);
+    order_of_refusals(&mut literals);
+    lines_and_lists(&mut literals);
+    println!("literal cases: {}", literals.checked);
+
+    println!("seed {seed}");
+    let random = &mut Random::new(seed);
+    let mut complete = true;
+    for family in FAMILIES {
+        let cases = match family {
+            Family::Check => CHECK_CASES,
+            _ => OTHER_CASES,
+        };
+        let mut tally = Tally::default();
+        for number in 0..cases {
+            let case = random_case(random, family, number % LONG_EVERY == 0);
+            tally.count(family, &case.compare());
+        }
+        complete &= tally.report(family);
+    }
+    if !complete {
+        exit(1);
+    }
+    println!("compare: all replies and buffers agree");
+}

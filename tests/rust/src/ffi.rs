@@ -1,0 +1,66 @@
+//! The static archive under test, with a safe wrapper for each call.
+#![allow(dead_code)]
+
+#[link(name = "trace", kind = "static")]
+extern "C" {
+    fn trace_check(text: *const u8, text_len: usize, line: *mut u8, line_len: usize) -> u8;
+    fn trace_read(text: *const u8, text_len: usize, words: *mut u32, words_len: usize) -> u64;
+    fn trace_guards(list: *const u8, list_len: usize) -> u64;
+    fn trace_declared(
+        list: *const u8,
+        list_len: usize,
+        words: *const u32,
+        words_len: usize,
+        line: *mut u8,
+        line_len: usize,
+    ) -> u8;
+    fn trace_inferred(
+        words: *const u32,
+        words_len: usize,
+        sets: *mut u64,
+        sets_len: usize,
+        line: *mut u8,
+        line_len: usize,
+    ) -> u8;
+}
+
+// SAFETY of each call: every pointer and length come from one slice, which is lent for the
+// time of the call; lent buffers are lent for writing and overlap nothing.
+
+pub fn check(text: &[u8], line: &mut [u8]) -> u8 {
+    unsafe { trace_check(text.as_ptr(), text.len(), line.as_mut_ptr(), line.len()) }
+}
+
+pub fn read(text: &[u8], words: &mut [u32]) -> u64 {
+    unsafe { trace_read(text.as_ptr(), text.len(), words.as_mut_ptr(), words.len()) }
+}
+
+pub fn guards(list: &[u8]) -> u64 {
+    unsafe { trace_guards(list.as_ptr(), list.len()) }
+}
+
+pub fn declared(list: &[u8], words: &[u32], line: &mut [u8]) -> u8 {
+    unsafe {
+        trace_declared(
+            list.as_ptr(),
+            list.len(),
+            words.as_ptr(),
+            words.len(),
+            line.as_mut_ptr(),
+            line.len(),
+        )
+    }
+}
+
+pub fn inferred(words: &[u32], sets: &mut [u64], line: &mut [u8]) -> u8 {
+    unsafe {
+        trace_inferred(
+            words.as_ptr(),
+            words.len(),
+            sets.as_mut_ptr(),
+            sets.len(),
+            line.as_mut_ptr(),
+            line.len(),
+        )
+    }
+}

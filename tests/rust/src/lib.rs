@@ -1,0 +1,396 @@
+//! Reference checker, written from document 01 alone; clarity comes before speed.
+
+use std::collections::{BTreeMap, BTreeSet};
+
+pub mod plain;
+pub mod random;
+
+pub const MOST_FRAMES: usize = 4096;
+pub const LINE_BYTES: usize = 33;
+pub const VARIABLES: usize = 1024;
+const MOST_THREAD: u8 = 31;
+const MOST_LOCK: u16 = 63;
+const MOST_VARIABLE: u16 = 1023;
+const MOST_DEPTH: u32 = 15;
+const ABSENT: usize = 0xFFFF;
+
+#[derive(Clone, Copy, Debug, PartialEq, Eq)]
+pub struct Refusal {
+    pub number: u8,
+    pub place: usize,
+}
+
+fn refuse<T>(number: u8, place: usize) -> Result<T, Refusal> {
+    Err(Refusal { number, place })
+}
+
+// Text.
+
+/// The word on a line that is eight digits and an LF.
+fn word_of_line(line: &[u8]) -> Option<u32> {
+    let digits = line.strip_suffix(b"\n")?;
+    if digits.len() != 8 {
+        return None;
+    }
+    digits.iter().try_fold(0, |word, &byte| match byte {
+        b'0'..=b'9' => Some(word * 16 + u32::from(byte - b'0')),
+        b'A'..=b'F' => Some(word * 16 + u32::from(byte - b'A') + 10),
+        _ => None,
+    })
+}
+
+/// The lines of a text, each with its LF; the last one may lack it.
+fn lines(text: &[u8]) -> impl Iterator<Item = (usize, &[u8])> {
+    text.split_inclusive(|&byte| byte == b'\n').enumerate()
+}
+
+/// Refusals 1 and 2.
+pub fn read_text(text: &[u8]) -> Result<Vec<u32>, Refusal> {
+    let mut words = Vec::new();
+    for (place, line) in lines(text) {
+        if place == MOST_FRAMES {
+            return refuse(2, MOST_FRAMES);
+        }
+        let Some(word) = word_of_line(line) else {
+            return refuse(1, place);
+        };
+        words.push(word);
+    }
+    Ok(words)
+}
+
+/// The guard of each named variable. Refusals 1, 11 and 12.
+pub fn read_guards(list: &[u8]) -> Result<BTreeMap<u16, u16>, Refusal> {
+    let mut guards = BTreeMap::new();
+    for (place, line) in lines(list) {
+        let Some(word) = word_of_line(line) else {
+            return refuse(1, place);
+        };
+        let (variable, lock) = ((word >> 16) as u16, word as u16);
+        if variable > MOST_VARIABLE || lock > MOST_LOCK {
+            return refuse(11, place);
+        }
+        if guards.insert(variable, lock).is_some() {
+            return refuse(12, place);
+        }
+    }
+    Ok(guards)
+}
+
+// Frames.
+
+#[derive(Clone, Copy)]
+enum Action {
+    Acquire(u16),
+    Release(u16),
+    Access(u16),
+    Begin,
+    End,
+}
+
+#[derive(Clone, Copy)]
+pub struct Frame {
+    thread: u8,
+    action: Action,
+}
+
+/// The frame, or the number of its refusal: 4, 5 or 6.
+fn frame_of_word(word: u32) -> Result<Frame, u8> {
+    let (operation, thread, object) = ((word >> 24) as u8, (word >> 16) as u8, word as u16);
+    let (action, most) = match operation {
+        1 => (Action::Acquire(object), MOST_LOCK),
+        2 => (Action::Release(object), MOST_LOCK),
+        3 | 4 => (Action::Access(object), MOST_VARIABLE),
+        5 => (Action::Begin, 0),
+        6 => (Action::End, 0),
+        _ => return Err(4),
+    };
+    if thread > MOST_THREAD {
+        return Err(5);
+    }
+    if object > most {
+        return Err(6);
+    }
+    Ok(Frame { thread, action })
+}
+
+/// The frames of a sound recording. Refusals 2 and 4 to 10.
+pub fn check_recording(words: &[u32]) -> Result<Vec<Frame>, Refusal> {
+    if words.len() > MOST_FRAMES {
+        return refuse(2, MOST_FRAMES);
+    }
+    let mut frames = Vec::new();
+    let mut holders: BTreeMap<u16, u8> = BTreeMap::new();
+    let mut depths: BTreeMap<u8, u32> = BTreeMap::new();
+    for (place, &word) in words.iter().enumerate() {
+        let frame = match frame_of_word(word) {
+            Ok(frame) => frame,
+            Err(number) => return refuse(number, place),
+        };
+        let depth = depths.entry(frame.thread).or_insert(0);
+        match frame.action {
+            Action::Acquire(lock) => {
+                if holders.contains_key(&lock) {
+                    return refuse(7, place);
+                }
+                holders.insert(lock, frame.thread);
+            }
+            Action::Release(lock) => {
+                if holders.get(&lock) != Some(&frame.thread) {
+                    return refuse(8, place);
+                }
+                holders.remove(&lock);
+            }
+            Action::Access(_) => {}
+            Action::Begin => {
+                if *depth == MOST_DEPTH {
+                    return refuse(9, place);
+                }
+                *depth += 1;
+            }
+            Action::End => {
+                if *depth == 0 {
+                    return refuse(10, place);
+                }
+                *depth -= 1;
+            }
+        }
+        frames.push(frame);
+    }
+    Ok(frames)
+}
+
+// Verdict.
+
+#[derive(Clone, Copy, Debug, PartialEq, Eq)]
+pub struct Violation {
+    pub kind: u8,
+    pub frame: usize,
+    pub thread: u8,
+    pub begin: Option<usize>,
+    pub commit: Option<usize>,
+    pub locks: u64,
+}
+
+#[derive(Clone, Copy, Debug, PartialEq, Eq)]
+pub enum Verdict {
+    Reducible { frames: usize },
+    Violation(Violation),
+}
+
+struct Block {
+    begin: usize,
+    depth: u32,
+    commit: Option<usize>,
+}
+
+#[derive(Default)]
+struct Thread {
+    held: BTreeSet<u16>,
+    block: Option<Block>,
+}
+
+impl Thread {
+    fn after_commit(&self) -> bool {
+        self.commit_frame().is_some()
+    }
+
+    fn commit_frame(&self) -> Option<usize> {
+        self.block.as_ref().and_then(|block| block.commit)
+    }
+
+    /// Commits a block before commit at this place; does nothing otherwise.
+    fn commit_at(&mut self, place: usize) {
+        if let Some(block) = &mut self.block {
+            block.commit.get_or_insert(place);
+        }
+    }
+}
+
+fn bits(locks: &BTreeSet<u16>) -> u64 {
+    locks.iter().map(|lock| 1 << lock).sum()
+}
+
+/// What decides an access. A variable without a candidate set entry has all locks.
+enum Guards<'a> {
+    Declared(&'a BTreeMap<u16, u16>),
+    Inferred(BTreeMap<u16, BTreeSet<u16>>),
+}
+
+impl Guards<'_> {
+    /// Kind and locks if the access goes wrong.
+    fn access(&mut self, thread: &mut Thread, variable: u16, place: usize) -> Option<(u8, u64)> {
+        match self {
+            Guards::Declared(guards) => match guards.get(&variable) {
+                Some(guard) => (!thread.held.contains(guard)).then_some((1, 1 << guard)),
+                None if thread.after_commit() => Some((2, 0)),
+                None => {
+                    thread.commit_at(place);
+                    None
+                }
+            },
+            Guards::Inferred(candidates) => {
+                let before = candidates.get(&variable);
+                let shared: BTreeSet<u16> = match before {
+                    Some(set) => set.intersection(&thread.held).copied().collect(),
+                    None => thread.held.clone(),
+                };
+                if shared.is_empty() {
+                    return Some((4, before.map_or(u64::MAX, bits)));
+                }
+                candidates.insert(variable, shared);
+                None
+            }
+        }
+    }
+}
+
+fn judge(frames: &[Frame], guards: &mut Guards) -> Verdict {
+    let mut threads: BTreeMap<u8, Thread> = BTreeMap::new();
+    for (place, frame) in frames.iter().enumerate() {
+        let thread = threads.entry(frame.thread).or_default();
+        let mut wrong = None;
+        match frame.action {
+            Action::Acquire(lock) if thread.after_commit() => wrong = Some((3, 1 << lock)),
+            Action::Acquire(lock) => {
+                thread.held.insert(lock);
+            }
+            Action::Release(lock) => {
+                thread.held.remove(&lock);
+                thread.commit_at(place);
+            }
+            Action::Access(variable) => wrong = guards.access(thread, variable, place),
+            Action::Begin => match &mut thread.block {
+                Some(block) => block.depth += 1,
+                None => {
+                    thread.block = Some(Block {
+                        begin: place,
+                        depth: 1,
+                        commit: None,
+                    })
+                }
+            },
+            Action::End => match &mut thread.block {
+                Some(block) if block.depth > 1 => block.depth -= 1,
+                _ => thread.block = None,
+            },
+        }
+        if let Some((kind, locks)) = wrong {
+            return Verdict::Violation(Violation {
+                kind,
+                frame: place,
+                thread: frame.thread,
+                begin: thread.block.as_ref().map(|block| block.begin),
+                commit: thread.commit_frame(),
+                locks,
+            });
+        }
+    }
+    Verdict::Reducible {
+        frames: frames.len(),
+    }
+}
+
+pub fn declared_verdict(frames: &[Frame], guards: &BTreeMap<u16, u16>) -> Verdict {
+    judge(frames, &mut Guards::Declared(guards))
+}
+
+/// The verdict and the candidate set of each variable.
+pub fn inferred_verdict(frames: &[Frame]) -> (Verdict, [u64; VARIABLES]) {
+    let mut guards = Guards::Inferred(BTreeMap::new());
+    let verdict = judge(frames, &mut guards);
+    let mut sets = [u64::MAX; VARIABLES];
+    if let Guards::Inferred(candidates) = guards {
+        for (variable, set) in candidates {
+            sets[usize::from(variable)] = bits(&set);
+        }
+    }
+    (verdict, sets)
+}
+
+/// The kind as a number and the verdict line.
+pub fn verdict_line(reply: Result<Verdict, Refusal>) -> (u8, String) {
+    let fields = |kind, frame| Violation {
+        kind,
+        frame,
+        thread: 0,
+        begin: None,
+        commit: None,
+        locks: 0,
+    };
+    let shown = match reply {
+        Ok(Verdict::Reducible { frames }) => fields(0, frames),
+        Ok(Verdict::Violation(violation)) => violation,
+        Err(refusal) => fields(0x80 + refusal.number, refusal.place),
+    };
+    let line = format!(
+        "{:02X}{:04X}{:02X}{:04X}{:04X}{:016X}\n",
+        shown.kind,
+        shown.frame,
+        shown.thread,
+        shown.begin.unwrap_or(ABSENT),
+        shown.commit.unwrap_or(ABSENT),
+        shown.locks
+    );
+    (shown.kind, line)
+}
+
+// The calls of the library.
+
+/// Writes the verdict line and returns the kind. Refusal 17 writes nothing.
+fn answer(line: &mut [u8], reply: impl FnOnce() -> Result<Verdict, Refusal>) -> u8 {
+    if line.len() < LINE_BYTES {
+        return 0x80 + 17;
+    }
+    let (kind, text) = verdict_line(reply());
+    line[..LINE_BYTES].copy_from_slice(text.as_bytes());
+    kind
+}
+
+fn packed(reply: Result<usize, Refusal>) -> u64 {
+    match reply {
+        Ok(count) => count as u64,
+        Err(refusal) => u64::from(refusal.number) << 32 | refusal.place as u64,
+    }
+}
+
+pub fn check(text: &[u8], line: &mut [u8]) -> u8 {
+    answer(line, || {
+        let frames = check_recording(&read_text(text)?)?;
+        Ok(inferred_verdict(&frames).0)
+    })
+}
+
+pub fn read(text: &[u8], words: &mut [u32]) -> u64 {
+    packed(read_text(text).and_then(|read| {
+        if words.len() < read.len() {
+            return refuse(3, read.len());
+        }
+        words[..read.len()].copy_from_slice(&read);
+        Ok(read.len())
+    }))
+}
+
+pub fn guards(list: &[u8]) -> u64 {
+    packed(read_guards(list).map(|guards| guards.len()))
+}
+
+pub fn declared(list: &[u8], words: &[u32], line: &mut [u8]) -> u8 {
+    answer(line, || {
+        let guards = read_guards(list)?;
+        let frames = check_recording(words)?;
+        Ok(declared_verdict(&frames, &guards))
+    })
+}
+
+pub fn inferred(words: &[u32], sets: &mut [u64], line: &mut [u8]) -> u8 {
+    answer(line, || {
+        let frames = check_recording(words)?;
+        if sets.len() < VARIABLES {
+            return refuse(16, VARIABLES);
+        }
+        let (verdict, final_sets) = inferred_verdict(&frames);
+        sets[..VARIABLES].copy_from_slice(&final_sets);
+        Ok(verdict)
+    })
+}

@@ -1,0 +1,304 @@
+//! Seeded random recordings, guard lists and damaged texts.
+
+/// splitmix64.
+#[derive(Clone)]
+pub struct Random(u64);
+
+impl Random {
+    pub fn new(seed: u64) -> Random {
+        Random(seed)
+    }
+
+    pub fn draw(&mut self) -> u64 {
+        self.0 = self.0.wrapping_add(0x9E37_79B9_7F4A_7C15);
+        let mut z = self.0;
+        z = (z ^ z >> 30).wrapping_mul(0xBF58_476D_1CE4_E5B9);
+        z = (z ^ z >> 27).wrapping_mul(0x94D0_49BB_1331_11EB);
+        z ^ z >> 31
+    }
+
+    /// A number from 0 to `limit` - 1.
+    pub fn below(&mut self, limit: usize) -> usize {
+        (self.draw() % limit as u64) as usize
+    }
+
+    pub fn between(&mut self, low: usize, high: usize) -> usize {
+        low + self.below(high - low + 1)
+    }
+
+    /// True in `share` of 1,000 cases.
+    pub fn chance(&mut self, share: usize) -> bool {
+        self.below(1000) < share
+    }
+
+    pub fn pick<T: Copy>(&mut self, from: &[T]) -> T {
+        from[self.below(from.len())]
+    }
+
+    pub fn shuffle<T>(&mut self, items: &mut [T]) {
+        for last in (1..items.len()).rev() {
+            items.swap(last, self.below(last + 1));
+        }
+    }
+
+    /// `count` different numbers below `limit`.
+    fn names(&mut self, count: usize, limit: u32) -> Vec<u32> {
+        let mut all: Vec<u32> = (0..limit).collect();
+        self.shuffle(&mut all);
+        all.truncate(count);
+        all
+    }
+}
+
+/// How a recording is made. Shares are of 1,000.
+#[derive(Clone, Debug)]
+pub struct Plan {
+    pub threads: usize,
+    pub locks: usize,
+    pub variables: usize,
+    pub frames: usize,
+    /// Weight of begin; the other weights are fixed.
+    pub nesting: usize,
+    /// Share of variables without a guard.
+    pub unprotected: usize,
+    /// Share of frames that need not follow the rules of the verdict.
+    pub careless: usize,
+    /// Share of frames that need not be sound.
+    pub wild: usize,
+}
+
+pub struct Recording {
+    pub words: Vec<u32>,
+    /// Each variable used and its guard.
+    pub guards: Vec<(u32, Option<u32>)>,
+}
+
+#[derive(Clone, Default)]
+struct Thread {
+    held: Vec<usize>,
+    depth: usize,
+    committed: bool,
+}
+
+struct Maker<'a> {
+    random: &'a mut Random,
+    threads: Vec<Thread>,
+    thread_names: Vec<u32>,
+    lock_names: Vec<u32>,
+    taken: Vec<bool>,
+    variable_names: Vec<u32>,
+    guards: Vec<Option<usize>>,
+    /// The variables that each lock guards.
+    guarded: Vec<Vec<usize>>,
+    nesting: usize,
+}
+
+impl Maker<'_> {
+    fn word(&self, operation: u32, thread: usize, object: u32) -> u32 {
+        operation << 24 | self.thread_names[thread] << 16 | object
+    }
+
+    /// A sound frame if one is found at random; `careful` also asks for the rules of the verdict.
+    fn step(&mut self, careful: bool) -> Option<u32> {
+        let number = self.random.below(self.threads.len());
+        let weights = [3, 2, 6, self.nesting, 2];
+        let mut at = self.random.below(weights.iter().sum());
+        let mut choice = 0;
+        while at >= weights[choice] {
+            at -= weights[choice];
+            choice += 1;
+        }
+        let thread = &mut self.threads[number];
+        match choice {
+            0 => {
+                let lock = self.random.below(self.taken.len());
+                if self.taken[lock] || careful && thread.committed {
+                    return None;
+                }
+                self.taken[lock] = true;
+                thread.held.push(lock);
+                Some(self.word(1, number, self.lock_names[lock]))
+            }
+            1 => {
+                if thread.held.is_empty() {
+                    return None;
+                }
+                let lock = thread
+                    .held
+                    .swap_remove(self.random.below(thread.held.len()));
+                self.taken[lock] = false;
+                thread.committed = thread.depth > 0;
+                Some(self.word(2, number, self.lock_names[lock]))
+            }
+            2 => {
+                let mut variable = self.random.below(self.guards.len());
+                if careful && !thread.held.is_empty() && self.guards[variable].is_some() {
+                    let lock = self.random.pick(&thread.held);
+                    if self.guarded[lock].is_empty() {
+                        return None;
+                    }
+                    variable = self.random.pick(&self.guarded[lock]);
+                }
+                let fits = match self.guards[variable] {
+                    Some(lock) => thread.held.contains(&lock),
+                    None => !thread.committed,
+                };
+                if careful && !fits {
+                    return None;
+                }
+                thread.committed |= self.guards[variable].is_none() && thread.depth > 0;
+                let operation = 3 + self.random.below(2) as u32;
+                Some(self.word(operation, number, self.variable_names[variable]))
+            }
+            3 if thread.depth < 15 => {
+                thread.depth += 1;
+                Some(self.word(5, number, 0))
+            }
+            4 if thread.depth > 0 => {
+                thread.depth -= 1;
+                thread.committed &= thread.depth > 0;
+                Some(self.word(6, number, 0))
+            }
+            _ => None,
+        }
+    }
+
+    fn wild_word(&mut self) -> u32 {
+        match self.random.below(8) {
+            0 => self.random.draw() as u32,
+            1 => edge_word(self.random),
+            _ => {
+                let thread = self.random.below(self.threads.len());
+                let operation = self.random.between(1, 6) as u32;
+                let object = match operation {
+                    1 | 2 => self.random.pick(&self.lock_names),
+                    3 | 4 => self.random.pick(&self.variable_names),
+                    _ => 0,
+                };
+                self.word(operation, thread, object)
+            }
+        }
+    }
+}
+
+/// A word whose fields are at the limits of the table of operations.
+pub fn edge_word(random: &mut Random) -> u32 {
+    let operation = random.pick(&[0, 1, 1, 2, 2, 3, 3, 4, 4, 5, 5, 6, 6, 7, 255]);
+    let thread = random.pick(&[0, 0, 1, 1, 30, 31, 31, 32, 255]);
+    let object = random.pick(&[0, 0, 0, 0, 1, 63, 64, 65, 1023, 1024, 65535]);
+    operation << 24 | thread << 16 | object
+}
+
+pub fn recording(random: &mut Random, plan: &Plan) -> Recording {
+    let guards: Vec<Option<usize>> = (0..plan.variables)
+        .map(|_| (!random.chance(plan.unprotected)).then(|| random.below(plan.locks)))
+        .collect();
+    let mut guarded = vec![Vec::new(); plan.locks];
+    for (variable, guard) in guards.iter().enumerate() {
+        if let Some(lock) = guard {
+            guarded[*lock].push(variable);
+        }
+    }
+    let mut maker = Maker {
+        threads: vec![Thread::default(); plan.threads],
+        thread_names: random.names(plan.threads, 32),
+        lock_names: random.names(plan.locks, 64),
+        taken: vec![false; plan.locks],
+        variable_names: random.names(plan.variables, 1024),
+        guards,
+        guarded,
+        nesting: plan.nesting,
+        random,
+    };
+    let mut words = Vec::with_capacity(plan.frames);
+    while words.len() < plan.frames {
+        if maker.random.chance(plan.wild) {
+            words.push(maker.wild_word());
+        } else {
+            let careful = !maker.random.chance(plan.careless);
+            words.extend(maker.step(careful));
+        }
+    }
+    let named = maker.variable_names.iter().zip(&maker.guards);
+    let guards = named
+        .map(|(&variable, guard)| (variable, guard.map(|lock| maker.lock_names[lock])))
+        .collect();
+    Recording { words, guards }
+}
+
+pub fn text_of_words(words: &[u32]) -> Vec<u8> {
+    let mut text = Vec::with_capacity(words.len() * 9);
+    for word in words {
+        for digit in (0..8).rev() {
+            text.push(b"0123456789ABCDEF"[(word >> (4 * digit) & 15) as usize]);
+        }
+        text.push(b'\n');
+    }
+    text
+}
+
+/// A guard list of these guards in random order; a few are left out or given another lock.
+pub fn guard_words(random: &mut Random, guards: &[(u32, Option<u32>)]) -> Vec<u32> {
+    let mut words = Vec::new();
+    for &(variable, guard) in guards {
+        if let Some(lock) = guard {
+            match random.below(40) {
+                0 => {}
+                1 => words.push(variable << 16 | random.below(64) as u32),
+                _ => words.push(variable << 16 | lock),
+            }
+        }
+    }
+    random.shuffle(&mut words);
+    words
+}
+
+/// Adds lines to a guard list that may be refused by 11 or 12.
+pub fn damage_guards(random: &mut Random, words: &mut Vec<u32>) {
+    for _ in 0..random.between(1, 3) {
+        let variable = random.pick(&[0, 5, 1022, 1023, 1024, 65535]);
+        let lock = random.pick(&[0, 1, 62, 63, 64, 65535]);
+        let mut word = variable << 16 | lock;
+        if !words.is_empty() && random.chance(500) {
+            word = random.pick(words);
+            if random.chance(300) {
+                word = word & 0xFFFF_0000 | lock;
+            }
+        }
+        words.insert(random.between(0, words.len()), word);
+    }
+}
+
+/// Makes one to three small changes to a text.
+pub fn damage_text(random: &mut Random, text: &mut Vec<u8>) {
+    for _ in 0..random.between(1, 3) {
+        let lines = text.len() / 9;
+        let line_start = 9 * random.between(0, lines);
+        if text.is_empty() {
+            text.push(random.pick(b"\n\r0Af x"));
+            continue;
+        }
+        let place = random.below(text.len());
+        match random.below(11) {
+            0 => text[place] ^= 1 << random.below(8),
+            1 => drop(text.remove(place)),
+            2 => text.insert(
+                place,
+                random.pick(b"0123456789ABCDEFabcdefG/:@`\r\n \0\xFF"),
+            ),
+            3 => text[place] = random.pick(b"0123456789ABCDEFabcdefG/:@`\r\n \0\xFF"),
+            4 => text[place..].make_ascii_lowercase(),
+            5 => text.insert((line_start + 8).min(text.len()), b'\r'),
+            6 => drop(text.pop()),
+            7 => text.insert(line_start, b'\n'),
+            8 => text.truncate(place),
+            9 => drop(text.drain(..line_start)),
+            _ => {
+                // A digit for a digit: the text stays readable, the frame changes.
+                if text[place] != b'\n' {
+                    text[place] = random.pick(b"0123456789ABCDEF");
+                }
+            }
+        }
+    }
+}
