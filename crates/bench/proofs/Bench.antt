@@ -1,0 +1,16 @@
+-- Every row holds: antt computes each verdict from the definitions.
+use mathlib.Core.Path.{refl}
+use Rattle.frame.specs.Frame.{decodeParts}
+use Rattle.text.specs.Text.{digitOf, digitsValue, lineOf, wordAt, scanFrom, wordsTo}
+use Rattle.guards.specs.Guards.{guardsFrom}
+use Rattle.soundness.specs.Soundness.{stepAction, checkFrom, start}
+use Rattle.judge.specs.Rules.{judgeOperation}
+use Rattle.pass.specs.Pass.{judgeFrom, startJudging, fullSets, judgement}
+use Rattle.verdict.specs.Verdict.{declaredReply, inferredGuards, inferredReply}
+use Rattle.line.specs.Line.{byteOf, digits}
+use Rattle.trace.specs.Trace.{textJudged}
+use Rattle.bench.specs.Bench.{AllRowsHold}
+
+pub all-rows-hold : AllRowsHold
+unfolding decodeParts digitOf digitsValue lineOf wordAt scanFrom wordsTo guardsFrom stepAction checkFrom start judgeOperation judgeFrom startJudging fullSets judgement declaredReply inferredGuards inferredReply byteOf digits textJudged
+all-rows-hold = refl

@@ -1,0 +1,68 @@
+-- The bench recordings of document 01 that are marked *, as rows of one list, and the claim that every row holds. Words are written as in
+-- document 01; a recording under inferred guards goes in as text, as the planner hands it in.
+use Prim.Native.Nat.{ℕ}
+use mathlib.Core.Path.{_≡_}
+use mathlib.Core.Bool.{Bool, true, _&&_}
+use mathlib.Core.List.{List, [], _∷_, _++_}
+use lib.Dec.{eqb}
+use lib.ListN.{length}
+use Rattle.line.specs.Line.{digits, replyFields}
+use Rattle.line.specs.declared.Fields.{Fields}
+use Rattle.verdict.specs.Verdict.{declaredReply}
+use Rattle.trace.specs.Trace.{textJudged}
+
+-- The text of words: eight digits and an LF each.
+abbrev pub textOf : List ℕ → List ℕ
+textOf [] = []
+textOf (w ∷ ws) = digits 8 w ++ (10 ∷ textOf ws)
+
+-- What a row says: the fields of the verdict line of a recording, with inferred guards, or with those of a guard list.
+pub data Row : Type 0 where
+  inferred : List ℕ → Fields → Row
+  declared : List ℕ → List ℕ → Fields → Row
+
+-- The fields of the line, in its order: kind, frame, thread, begin, commit, locks.
+abbrev pub fields : ℕ → ℕ → ℕ → ℕ → ℕ → ℕ → Fields
+fields k f t b c l = record { kind = k; frame = f; thread = t; begin = b; commit = c; locks = l }
+
+-- Absent begin or commit.
+abbrev pub absent : ℕ
+absent = 0xFFFF
+
+abbrev pub sameFields : Fields → Fields → Bool
+sameFields x y =
+    eqb (x .kind) (y .kind) && (eqb (x .frame) (y .frame) && (eqb (x .thread) (y .thread) && (eqb (x .begin) (y .begin) && (eqb (x .commit) (y .commit) && eqb (x .locks) (y .locks)))))
+
+abbrev pub holds : Row → Bool
+holds (inferred ws expected) = sameFields (replyFields (textJudged (textOf ws) .reply) (textJudged (textOf ws) .frames)) expected
+holds (declared list ws expected) = sameFields (replyFields (declaredReply (textOf list) ws) (length ws)) expected
+
+abbrev pub allHold : List Row → Bool
+allHold [] = true
+allHold (r ∷ rs) = holds r && allHold rs
+
+abbrev pub rows : List Row
+rows =
+    -- A: kind 3, frame 4, thread 1, begin 0, commit 3, lock 0
+    inferred (0x05010000 ∷ 0x01010000 ∷ 0x03010000 ∷ 0x02010000 ∷ 0x01010000 ∷ 0x03010001 ∷ 0x02010000 ∷ 0x06010000 ∷ []) (fields 3 4 1 0 3 1)
+    -- B: empty recording, reducible
+    ∷ inferred [] (fields 0 0 0 absent absent 0)
+    ∷ declared [] [] (fields 0 0 0 absent absent 0)
+    -- C, inferred: reducible
+    ∷ inferred (0x05000000 ∷ 0x05010000 ∷ 0x01000000 ∷ 0x04000000 ∷ 0x02000000 ∷ 0x01010000 ∷ 0x04010000 ∷ 0x06000000 ∷ 0x02010000 ∷ 0x06010000 ∷ []) (fields 0 10 0 absent absent 0)
+    -- D, inferred: kind 4, locks all 64, begin and commit absent; declared, unguarded: reducible
+    ∷ inferred (0x03000005 ∷ []) (fields 4 0 0 absent absent 0xFFFFFFFFFFFFFFFF)
+    ∷ declared [] (0x03000005 ∷ []) (fields 0 1 0 absent absent 0)
+    -- E, variable 5 unguarded: kind 2 at 2, begin 0, commit 1
+    ∷ declared [] (0x05000000 ∷ 0x03000005 ∷ 0x03000005 ∷ []) (fields 2 2 0 0 1 0)
+    -- F, unguarded: reducible
+    ∷ declared [] (0x05000000 ∷ 0x03000005 ∷ 0x06000000 ∷ []) (fields 0 3 0 absent absent 0)
+    -- G, with guard 00050002: kind 1, locks 4
+    ∷ declared (0x00050002 ∷ []) (0x03000005 ∷ []) (fields 1 0 0 absent absent 4)
+    -- J: refusal 7 at 1; 8 at 1
+    ∷ inferred (0x01000003 ∷ 0x01010003 ∷ []) (fields 0x87 1 0 absent absent 0)
+    ∷ inferred (0x01000003 ∷ 0x02010003 ∷ []) (fields 0x88 1 0 absent absent 0)
+    ∷ []
+
+abbrev pub AllRowsHold : Type 0
+AllRowsHold = allHold rows ≡ true
