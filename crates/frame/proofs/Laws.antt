@@ -1,10 +1,10 @@
 -- Laws of decoding: what is decoded is in its ranges, and decoding and encoding undo each other.
-use Prim.Native.Nat.{ℕ, zero, suc, _+_, _*_, _/_, _%_, _<_, _≤_}
-use mathlib.Core.Path.{_≡_, refl, sym, ap, _∙_}
-use mathlib.Core.Bool.{Bool, true, false, cond}
+use Prim.Native.Nat.{ℕ, zero, suc, _/_, _%_, _<_, _≤_}
+use mathlib.Core.Path.{_≡_, refl, ap, _∙_}
+use mathlib.Core.Bool.{Bool, true, false}
 use native.Mathlib.Omega.{arith}
-use lib.Dec.{ltb, leb, eqb}
-use borrow.Author.Tests.{lt-ltb, le-ltb, le-leb, lt-leb, eq-eqb, ne-eqb, ltb-true, ltb-false, leb-true, leb-false, eqb-true, eqb-false}
+use lib.Dec.{ltb}
+use borrow.Author.Tests.{le-ltb, le-leb, ltb-false, leb-true, eqb-true}
 use Rattle.frame.specs.declared.Refusal.{Refusal}
 use Rattle.frame.specs.Frame.{objectFits, actionOf, decodeParts, decodeWord, wordOf, encodeParts, encodeFrame, ObjectInRange, InRange}
 use Rattle.frame.specs.Refusal.{refusalNumber}
@@ -12,7 +12,6 @@ use Rattle.frame.specs.declared.Frame.{Frame}
 use Rattle.frame.specs.declared.Action.{Action}
 use Rattle.frame.specs.declared.Action.the-variants.{Acquire, Release, Read, Write, Begin, End}
 use Rattle.frame.specs.declared.Refusal.the-variants as refusal
-use Rattle.frame.specs.declared.Decoded.{Decoded}
 use Rattle.frame.specs.declared.Decoded.the-variants as decoded
 
 never : {A : Type 0} → _≡_ {A = ℕ} 0 1 → A

@@ -1,11 +1,9 @@
 -- What a 32-bit word means as a frame, and the word of a frame.
 -- "A frame is a 32-bit word: operation in the top 8 bits, thread in the next 8, object in the low 16."
 use Prim.Native.Nat.{ℕ, _+_, _*_, _/_, _%_, _<_}
-use mathlib.Core.Bool.{Bool, true, false, cond}
+use mathlib.Core.Bool.{Bool, cond}
 use lib.Dec.{ltb, leb, eqb}
 use Rattle.frame.specs.declared.Thread.{Thread}
-use Rattle.frame.specs.declared.Lock.{Lock}
-use Rattle.frame.specs.declared.Variable.{Variable}
 use Rattle.frame.specs.declared.Frame.{Frame}
 use Rattle.frame.specs.declared.Action.{Action}
 use Rattle.frame.specs.declared.Action.the-variants.{Acquire, Release, Read, Write, Begin, End}

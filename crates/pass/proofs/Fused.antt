@@ -1,7 +1,7 @@
 -- The one pass of the code: each frame is checked and judged, and after a violation the rest is checked alone. It replies as a check of the
 -- whole recording before its judgement does.
 use Prim.Native.Nat.{ℕ, _+_, _≤_, _<_}
-use mathlib.Core.Path.{_≡_, refl, sym, _∙_}
+use mathlib.Core.Path.{_≡_, refl, _∙_}
 use mathlib.Core.List.{List, [], _∷_}
 use native.Mathlib.Numerals.{add-one}
 use lib.ListN.{length, getD, drop, drop-of-length-le}
@@ -12,18 +12,17 @@ use Rattle.frame.specs.declared.Refusal.{Refusal}
 use Rattle.frame.specs.declared.Decoded.{Decoded}
 use Rattle.frame.specs.declared.Decoded.the-variants as decoded
 use Rattle.reply.specs.Reply.{refused, reducible, violated}
-use Rattle.reply.specs.declared.Reply.{Reply}
 use Rattle.reply.specs.declared.Violation.{Violation}
 use Rattle.reply.specs.declared.Verdict.{Verdict}
 use Rattle.reply.specs.declared.Verdict.the-variants as verdict
-use Rattle.soundness.specs.Soundness.{State, Stepped, stepped, stepFrame, checkFrom, checkReply, start}
+use Rattle.soundness.specs.Soundness.{State, stepped, stepFrame, checkFrom, start}
 use Rattle.soundness.proofs.Laws.{check-short}
 use Rattle.soundness.specs.declared.Outcome.{Outcome}
 use Rattle.soundness.specs.declared.Outcome.the-variants as outcome
 use Rattle.soundness.specs.declared.CheckReply.{CheckReply}
 use Rattle.soundness.specs.declared.CheckReply.the-variants as check
-use Rattle.judge.specs.Rules.{Judging, Judged, judged}
-use Rattle.pass.specs.Pass.{Ended, ended, judgeFrame, onDecoded, onOutcome, onVerdict, judgeFrom, startJudging, onCheck, judgement, setsOf, afterCheck}
+use Rattle.judge.specs.Rules.{Judging, judged}
+use Rattle.pass.specs.Pass.{Ended, ended, judgeFrame, onDecoded, onOutcome, judgeFrom, startJudging, onCheck, judgement, setsOf, afterCheck}
 
 abbrev pub onFused : Verdict → List ℕ → CheckReply → Ended → Ended
 onFused verdict.Reducible c q rest = rest

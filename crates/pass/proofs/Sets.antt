@@ -5,7 +5,7 @@ use mathlib.Core.Bool.{Bool, true, false, cond}
 use mathlib.Core.List.{List, [], _∷_}
 use lib.Dec.{eqb}
 use lib.Bits.{bitAnd}
-use lib.ListN.{length, getD, set, length-set}
+use lib.ListN.{length, getD, length-set}
 use Rattle.frame.specs.Frame.{decodeWord}
 use Rattle.frame.specs.declared.Thread.{Thread}
 use Rattle.frame.specs.declared.Lock.{Lock}
@@ -21,10 +21,10 @@ use Rattle.soundness.specs.declared.Outcome.{Outcome}
 use Rattle.soundness.specs.declared.Outcome.the-variants as outcome
 use Rattle.soundness.specs.declared.CheckReply.{CheckReply}
 use Rattle.soundness.specs.declared.CheckReply.the-variants as check
-use Rattle.judge.specs.Rules.{Phase, outside, before, after, Judging, judgingOf, Judged, phaseAt, contains, withCommit, committed, acquireIn, unprotectedIn, judgeOperation}
+use Rattle.judge.specs.Rules.{Phase, outside, before, after, Judging, Judged, phaseAt, contains, withCommit, committed, acquireIn, unprotectedIn, judgeOperation}
 use Rattle.judge.specs.declared.Operation.{Operation}
 use Rattle.judge.specs.declared.Operation.the-variants.{Acquire, Release, Protected, Unprotected, Inferred, Begin, End}
-use Rattle.pass.specs.Pass.{Ended, ended, judgeFrame, onDecoded, onOutcome, onVerdict, judgeFrom, startJudging, onCheck, judgement}
+use Rattle.pass.specs.Pass.{Ended, judgeFrame, onOutcome, onVerdict, judgeFrom, startJudging, onCheck, judgement}
 
 cond-length : (b : Bool) (x y : Judged) (n : ℕ) → length (x .judging .sets) ≡ n → length (y .judging .sets) ≡ n → length (cond b x y .judging .sets) ≡ n
 cond-length true x y n p q = p

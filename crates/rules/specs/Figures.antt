@@ -2,7 +2,7 @@
 -- recording. The rules of figure 11 that are those of figure 8 over again ([INS2 ACQUIRE], [INS2 RELEASE COMMIT], ..) are stated once;
 -- figure 8's accesses are of variables whose guard is declared, figure 11's of those whose guard is inferred. [INS NO-OP] is no frame.
 -- In this order: the stores, the steps, going wrong, recordings, the claim.
-use Prim.Native.Nat.{ℕ, zero, suc, _+_, _<_}
+use Prim.Native.Nat.{ℕ, suc, _+_, _<_}
 use mathlib.Core.Path.{_≡_}
 use mathlib.Core.Bool.{cond}
 use mathlib.Core.Logic.{_↔_}

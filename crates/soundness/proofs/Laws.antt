@@ -16,7 +16,7 @@ use Rattle.frame.specs.declared.Refusal.{Refusal}
 use Rattle.frame.specs.declared.Refusal.the-variants as refusal
 use Rattle.soundness.specs.declared.CheckReply.the-variants as reply
 use Rattle.soundness.specs.declared.Outcome.the-variants as outcome
-use Rattle.soundness.specs.Soundness.{State, stepped, stepFrame, stepDecoded, onOutcome, Checked, checked, refused, checkFrom, checkReply, start}
+use Rattle.soundness.specs.Soundness.{State, stepped, stepFrame, stepDecoded, onOutcome, checked, refused, checkFrom, checkReply, start}
 
 pub check-short : (ws : List ℕ) → length ws ≤ 4096 → checkReply ws ≡ checkFrom 0 start ws .reply
 check-short ws h = rw (le-ltb 4096 (length ws) h)

@@ -1,10 +1,8 @@
 -- Laws of the answers: the kind does not depend on the number of frames, and that number is handed on whole where it is written.
 use Prim.Native.Nat.{ℕ, _%_, _≤_}
 use mathlib.Core.Path.{_≡_, refl, ap}
-use mathlib.Core.List.{List}
 use native.Mathlib.Omega.{arith}
 use Rattle.line.specs.Line.{replyFields, verdictLine}
-use Rattle.line.specs.declared.Fields.{Fields}
 use Rattle.reply.specs.Reply.{reducible}
 use Rattle.reply.specs.declared.Reply.{Reply}
 use Rattle.reply.specs.declared.Reply.the-variants as reply

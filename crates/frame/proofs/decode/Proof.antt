@@ -5,77 +5,60 @@ use borrow.Author.Tests.{lt-ltb, le-ltb, le-leb, lt-leb, eq-eqb, ne-eqb}
 use Rattle.frame.specs.Frame.{decodeParts}
 use Rattle.frame.proofs.decode.Statement.{statement}
 use Rattle.frame.proofs.decode.Tie as tie
-use Rattle.frame.proofs.decode.Reads as reads
-use Rattle.frame.proofs.decode.Lts as lts
 
--- src/lib.rt:55:9
 returns : tie.Need-returns
 unfolding decodeParts
 returns c = simp (lt-ltb _ _ (c .if1 .taken))
 
--- src/lib.rt:58:9
 returns-2 : tie.Need-returns-2
 unfolding decodeParts
 returns-2 c = simp (lt-ltb _ _ (c .if2 .taken), le-ltb _ _ (c .before .if1 .left))
 
--- src/lib.rt:61:9
 returns-3 : tie.Need-returns-3
 unfolding decodeParts
 returns-3 c = simp (lt-ltb _ _ (c .if3 .taken), le-ltb _ _ (c .before .if2 .left), le-ltb _ _ (c .before .before .if1 .left))
 
--- src/lib.rt:63:20
 cast-t13 : tie.Need-cast-t13
 cast-t13 c = search needs
 
--- src/lib.rt:66:13
 returns-4 : tie.Need-returns-4
 unfolding decodeParts
 returns-4 c = simp (lt-leb _ _ (c .if5 .taken), le-leb _ _ (c .before .if4 .taken), le-ltb _ _ (c .before .before .if3 .left), le-ltb _ _ (c .before .before .before .if2 .left), le-ltb _ _ (c .before .before .before .before .if1 .left))
 
--- src/lib.rt:68:25
 cast-t16 : tie.Need-cast-t16
 cast-t16 c = search needs
 
--- src/lib.rt:70:13
 returns-5 : tie.Need-returns-5
 unfolding decodeParts
 returns-5 c = simp (eq-eqb _ _ (c .if6 .taken), le-leb _ _ (c .before .if5 .left), le-leb _ _ (c .before .before .if4 .taken), le-ltb _ _ (c .before .before .before .if3 .left), le-ltb _ _ (c .before .before .before .before .if2 .left), le-ltb _ _ (c .before .before .before .before .before .if1 .left))
 
--- src/lib.rt:72:9
 returns-6 : tie.Need-returns-6
 unfolding decodeParts
 returns-6 c = let op = c .before .before .before .before .before .before .args .word / 16777216 in simp (le-leb _ _ (c .before .if5 .left), le-leb _ _ (c .before .before .if4 .taken), le-ltb _ _ (c .before .before .before .if3 .left), le-ltb _ _ (c .before .before .before .before .if2 .left), le-ltb _ _ (c .before .before .before .before .before .if1 .left), ne-eqb op 1 (omega arith), eq-eqb op 2 (omega arith))
 
--- src/lib.rt:76:13
 returns-7 : tie.Need-returns-7
 unfolding decodeParts
 returns-7 c = simp (lt-leb _ _ (c .if8 .taken), le-leb _ _ (c .before .if7 .taken), lt-leb _ _ (c .before .before .if4 .left), le-ltb _ _ (c .before .before .before .if3 .left), le-ltb _ _ (c .before .before .before .before .if2 .left), le-ltb _ _ (c .before .before .before .before .before .if1 .left))
 
--- src/lib.rt:78:33
 cast-t23 : tie.Need-cast-t23
 cast-t23 c = search needs
 
--- src/lib.rt:80:13
 returns-8 : tie.Need-returns-8
 unfolding decodeParts
 returns-8 c = let op = c .before .before .before .before .before .before .before .args .word / 16777216 in simp (le-leb _ _ (c .before .if8 .left), le-leb _ _ (c .before .before .if7 .taken), lt-leb _ _ (c .before .before .before .if4 .left), le-ltb _ _ (c .before .before .before .before .if3 .left), le-ltb _ _ (c .before .before .before .before .before .if2 .left), le-ltb _ _ (c .before .before .before .before .before .before .if1 .left), ne-eqb op 1 (omega arith), ne-eqb op 2 (omega arith), eq-eqb op 3 (omega arith))
 
--- src/lib.rt:82:9
 returns-9 : tie.Need-returns-9
 unfolding decodeParts
 returns-9 c = let op = c .before .before .before .before .before .before .before .args .word / 16777216 in simp (le-leb _ _ (c .before .if8 .left), le-leb _ _ (c .before .before .if7 .taken), lt-leb _ _ (c .before .before .before .if4 .left), le-ltb _ _ (c .before .before .before .before .if3 .left), le-ltb _ _ (c .before .before .before .before .before .if2 .left), le-ltb _ _ (c .before .before .before .before .before .before .if1 .left), ne-eqb op 1 (omega arith), ne-eqb op 2 (omega arith), ne-eqb op 3 (omega arith), eq-eqb op 4 (omega arith))
 
--- src/lib.rt:85:9
 returns-10 : tie.Need-returns-10
 unfolding decodeParts
 returns-10 c = simp (ne-eqb _ _ (c .if10 .taken), lt-leb _ _ (c .before .if7 .left), lt-leb _ _ (c .before .before .if4 .left), le-ltb _ _ (c .before .before .before .if3 .left), le-ltb _ _ (c .before .before .before .before .if2 .left), le-ltb _ _ (c .before .before .before .before .before .if1 .left))
 
--- src/lib.rt:88:9
 returns-11 : tie.Need-returns-11
 unfolding decodeParts
 returns-11 c = let op = c .before .before .before .before .before .before .before .args .word / 16777216 in simp (eq-eqb _ _ (c .before .if10 .left), lt-leb _ _ (c .before .before .if7 .left), lt-leb _ _ (c .before .before .before .if4 .left), le-ltb _ _ (c .before .before .before .before .if3 .left), le-ltb _ _ (c .before .before .before .before .before .if2 .left), le-ltb _ _ (c .before .before .before .before .before .before .if1 .left), ne-eqb op 1 (omega arith), ne-eqb op 2 (omega arith), ne-eqb op 3 (omega arith), ne-eqb op 4 (omega arith), eq-eqb op 5 (omega arith))
 
--- src/lib.rt:48:1
 returns-12 : tie.Need-returns-12
 unfolding decodeParts
 returns-12 c = let op = c .before .before .before .before .before .before .before .args .word / 16777216 in simp (eq-eqb _ _ (c .before .if10 .left), lt-leb _ _ (c .before .before .if7 .left), lt-leb _ _ (c .before .before .before .if4 .left), le-ltb _ _ (c .before .before .before .before .if3 .left), le-ltb _ _ (c .before .before .before .before .before .if2 .left), le-ltb _ _ (c .before .before .before .before .before .before .if1 .left), ne-eqb op 1 (omega arith), ne-eqb op 2 (omega arith), ne-eqb op 3 (omega arith), ne-eqb op 4 (omega arith), ne-eqb op 5 (omega arith))

@@ -1,18 +1,13 @@
 use borrow.Author.Tests.{eq-eqb, ne-eqb}
 use Rattle.judge.proofs.after_commit.Statement.{statement}
 use Rattle.judge.proofs.after_commit.Tie as tie
-use Rattle.judge.proofs.after_commit.Reads as reads
-use Rattle.judge.proofs.after_commit.Lts as lts
 
--- src/lib.rt:113:9
 returns : tie.Need-returns
 returns c = simp (eq-eqb _ _ (c .if1 .taken))
 
--- src/lib.rt:116:9
 returns-2 : tie.Need-returns-2
 returns-2 c = simp (ne-eqb _ _ (c .before .if1 .left), eq-eqb _ _ (c .if2 .taken))
 
--- src/lib.rt:109:1
 returns-3 : tie.Need-returns-3
 returns-3 c = simp (ne-eqb _ _ (c .before .if1 .left), ne-eqb _ _ (c .if2 .left))
 

@@ -1,14 +1,10 @@
 use borrow.Author.Tests.{eq-eqb, ne-eqb}
 use Rattle.judge.proofs.begin_mark.Statement.{statement}
 use Rattle.judge.proofs.begin_mark.Tie as tie
-use Rattle.judge.proofs.begin_mark.Reads as reads
-use Rattle.judge.proofs.begin_mark.Lts as lts
 
--- src/lib.rt:77:9
 returns : tie.Need-returns
 returns c = simp (eq-eqb _ _ (c .if1 .taken))
 
--- src/lib.rt:73:1
 returns-2 : tie.Need-returns-2
 returns-2 c = simp (ne-eqb _ _ (c .if1 .left))
 

@@ -2,22 +2,16 @@ use borrow.Author.Tests.{eq-eqb, ne-eqb}
 use borrow.Author.Needs.{needs}
 use Rattle.judge.proofs.commit_at.Statement.{statement}
 use Rattle.judge.proofs.commit_at.Tie as tie
-use Rattle.judge.proofs.commit_at.Reads as reads
-use Rattle.judge.proofs.commit_at.Lts as lts
 
--- src/lib.rt:115:9
 returns : tie.Need-returns
 returns c = simp (eq-eqb _ _ (c .if1 .taken))
 
--- src/lib.rt:118:16
 add-result : tie.Need-add-result
 add-result c = search needs
 
--- src/lib.rt:118:9
 returns-2 : tie.Need-returns-2
 returns-2 c = simp (ne-eqb _ _ (c .before .if1 .left), eq-eqb _ _ (c .if2 .taken))
 
--- src/lib.rt:110:1
 returns-3 : tie.Need-returns-3
 returns-3 c = simp (ne-eqb _ _ (c .before .if1 .left), ne-eqb _ _ (c .if2 .left))
 

@@ -1,5 +1,5 @@
 -- Each arm's answer is a law of proofs/Laws at the values that the code has there, after the operation's case is put in.
-use mathlib.Core.Path.{_≡_, sym, _∙_}
+use mathlib.Core.Path.{sym, _∙_}
 use native.Mathlib.Omega.{arith}
 use borrow.Author.Needs.{needs}
 use lib.ListN.{getD}
@@ -9,52 +9,35 @@ use Rattle.judge.proofs.Laws.{acquire-after, acquire-else, unprotected-
 use borrow.Author.Needs.{needs}
 use Rattle.judge.proofs.judge.Statement.{statement}
 use Rattle.judge.proofs.judge.Tie as tie
-use Rattle.judge.proofs.judge.Reads as reads
-use Rattle.judge.proofs.judge.Lts as lts
-use Rattle.judge.proofs.after_commit.Reads as after-commit-reads
-use Rattle.judge.proofs.commit_at.Reads as commit-at-reads
-use Rattle.judge.proofs.contains.Reads as contains-reads
-use Rattle.judge.proofs.single.Reads as single-reads
-use Rattle.judge.proofs.wrong.Reads as wrong-reads
 
--- src/lib.rt:150:13
 cast-k : tie.Need-cast-k
 cast-k c = search needs
 
--- src/lib.rt:152:28
 enum-known-op : tie.Need-enum-known-op
 enum-known-op c = search needs
 
--- src/lib.rt:153:21
 mul-c : tie.Need-mul-c
 mul-c c = search needs
 
--- src/lib.rt:153:21
 element-copy-out-c : tie.Need-element-copy-out-c
 element-copy-out-c c = search needs
 
--- src/lib.rt:154:16
 after-commit-requires : tie.Need-after-commit-requires
 after-commit-requires c κs = search needs
 
--- src/lib.rt:155:70
 mul-wrong : tie.Need-mul-wrong
 mul-wrong c = search needs
 
--- src/lib.rt:155:70
 element-copy-out-wrong : tie.Need-element-copy-out-wrong
 element-copy-out-wrong c = search needs
 
--- src/lib.rt:155:84
 single-requires : tie.Need-single-requires
 single-requires c κs =
     (rw (c .before .before .before .before .before .op .given .1) at (c .before .before .before .before .before .before .before .before .pre .1 .1)) .0
 
--- src/lib.rt:155:17
 wrong-requires : tie.Need-wrong-requires
 wrong-requires c κs = search needs
 
--- src/lib.rt:155:17
 returns : tie.Need-returns
 unfolding judgeOperation
 returns c =
@@ -65,159 +48,122 @@ returns c =
     let e = sym (c .before .before .before .before .after-commit .ensures) ∙ c .before .before .before .if1 .taken in
     (rw (c .before .before .before .before .before .before .before .op .given .1, c .wrong .ensures, c .before .single .ensures) (acquire-after (a .i) (a .thread) (a .d) b m j e (c .before .before .before .before .before .before .before .op .given .0 .0)), rw (c .wrong .ensures))
 
--- src/lib.rt:157:23
 mul-held : tie.Need-mul-held
 mul-held c = search needs
 
--- src/lib.rt:157:23
 element-copy-out-held : tie.Need-element-copy-out-held
 element-copy-out-held c = search needs
 
--- src/lib.rt:157:33
 single-requires-2 : tie.Need-single-requires-2
 single-requires-2 c κs =
     (rw (c .before .before .before .before .before .op .given .1) at (c .before .before .before .before .before .before .before .before .pre .1 .1)) .0
 
--- src/lib.rt:157:23
 add-held : tie.Need-add-held
 add-held c =
     let p = rw (c .before .before .before .before .before .before .op .given .1) at (c .before .before .before .before .before .before .before .before .before .pre .1 .1) in
     omega (arith, p .1, c .single2 .ensures)
 
--- src/lib.rt:157:13
 mul-held-2 : tie.Need-mul-held-2
 mul-held-2 c = search needs
 
--- src/lib.rt:157:13
 element-write-held : tie.Need-element-write-held
 element-write-held c = search needs
 
--- src/lib.rt:160:28
 enum-known-op-2 : tie.Need-enum-known-op-2
 enum-known-op-2 c = search needs
 
--- src/lib.rt:161:23
 mul-held-3 : tie.Need-mul-held-3
 mul-held-3 c = search needs
 
--- src/lib.rt:161:23
 element-copy-out-held-2 : tie.Need-element-copy-out-held-2
 element-copy-out-held-2 c = search needs
 
--- src/lib.rt:161:33
 single-requires-3 : tie.Need-single-requires-3
 single-requires-3 c κs = (rw (c .before .before .op2 .given .1) at (c .before .before .before .before .before .pre .1 .1)) .0
 
--- src/lib.rt:161:23
 sub-held : tie.Need-sub-held
 sub-held c =
     let p = rw (c .before .before .before .op2 .given .1) at (c .before .before .before .before .before .before .pre .1 .1) in
     omega (arith, p .1, c .single3 .ensures)
 
--- src/lib.rt:161:13
 mul-held-4 : tie.Need-mul-held-4
 mul-held-4 c = search needs
 
--- src/lib.rt:161:13
 element-write-held-2 : tie.Need-element-write-held-2
 element-write-held-2 c = search needs
 
--- src/lib.rt:162:39
 mul-commit-at : tie.Need-mul-commit-at
 mul-commit-at c = search needs
 
--- src/lib.rt:162:39
 element-copy-out-commit-at : tie.Need-element-copy-out-commit-at
 element-copy-out-commit-at c = search needs
 
--- src/lib.rt:162:26
 commit-at-requires : tie.Need-commit-at-requires
 commit-at-requires c κs = search needs
 
--- src/lib.rt:162:13
 mul-commits : tie.Need-mul-commits
 mul-commits c = search needs
 
--- src/lib.rt:162:13
 element-write-commits : tie.Need-element-write-commits
 element-write-commits c = search needs
 
--- src/lib.rt:165:30
 enum-known-op-3 : tie.Need-enum-known-op-3
 enum-known-op-3 c = search needs
 
--- src/lib.rt:166:25
 mul-contains : tie.Need-mul-contains
 mul-contains c = search needs
 
--- src/lib.rt:166:25
 element-copy-out-contains : tie.Need-element-copy-out-contains
 element-copy-out-contains c = search needs
 
--- src/lib.rt:166:16
 contains-requires : tie.Need-contains-requires
 contains-requires c κs = rw (c .before .before .op3 .given .1) at (c .before .before .before .before .before .pre .1 .1)
 
--- src/lib.rt:167:17
 returns-2 : tie.Need-returns-2
 unfolding judgeOperation
 returns-2 c =
     (rw (c .before .before .before .before .op3 .given .1, sym (c .before .contains .ensures) ∙ c .if2 .taken), rw (c .before .before .before .before .op3 .given .1))
 
--- src/lib.rt:169:53
 mul-wrong-2 : tie.Need-mul-wrong-2
 mul-wrong-2 c = search needs
 
--- src/lib.rt:169:53
 element-copy-out-wrong-2 : tie.Need-element-copy-out-wrong-2
 element-copy-out-wrong-2 c = search needs
 
--- src/lib.rt:169:64
 mul-wrong-3 : tie.Need-mul-wrong-3
 mul-wrong-3 c = search needs
 
--- src/lib.rt:169:64
 element-copy-out-wrong-3 : tie.Need-element-copy-out-wrong-3
 element-copy-out-wrong-3 c = search needs
 
--- src/lib.rt:169:76
 single-requires-4 : tie.Need-single-requires-4
 single-requires-4 c κs =
     rw (c .before .before .before .before .before .before .op3 .given .1) at (c .before .before .before .before .before .before .before .before .before .pre .1 .1)
 
--- src/lib.rt:169:13
 wrong-requires-2 : tie.Need-wrong-requires-2
 wrong-requires-2 c κs = search needs
 
--- src/lib.rt:172:21
 enum-told : tie.Need-enum-told
 enum-told c = search needs
 
--- src/lib.rt:172:21
 mul-c-2 : tie.Need-mul-c-2
 mul-c-2 c = search needs
 
--- src/lib.rt:172:21
 element-copy-out-c-2 : tie.Need-element-copy-out-c-2
 element-copy-out-c-2 c = search needs
 
--- src/lib.rt:173:16
 after-commit-requires-2 : tie.Need-after-commit-requires-2
 after-commit-requires-2 c κs = search needs
 
--- src/lib.rt:174:74
 mul-wrong-4 : tie.Need-mul-wrong-4
 mul-wrong-4 c = search needs
 
--- src/lib.rt:174:74
 element-copy-out-wrong-4 : tie.Need-element-copy-out-wrong-4
 element-copy-out-wrong-4 c = search needs
 
--- src/lib.rt:174:17
 wrong-requires-3 : tie.Need-wrong-requires-3
 wrong-requires-3 c κs = search needs
 
--- src/lib.rt:174:17
 returns-3 : tie.Need-returns-3
 unfolding judgeOperation
 returns-3 c =
@@ -228,102 +174,78 @@ returns-3 c =
     let e = sym (c .before .before .before .after-commit2 .ensures) ∙ c .before .before .if3 .taken in
     (rw (c .before .before .before .before .before .enum-told .given .1, c .wrong3 .ensures) (unprotected-after (a .i) (a .thread) (a .d) b m j e (withCommit (a .thread) (committed (a .d) m (a .i)) j)), rw (c .wrong3 .ensures))
 
--- src/lib.rt:176:26
 commit-at-requires-2 : tie.Need-commit-at-requires-2
 commit-at-requires-2 c κs = search needs
 
--- src/lib.rt:176:13
 mul-commits-2 : tie.Need-mul-commits-2
 mul-commits-2 c = search needs
 
--- src/lib.rt:176:13
 element-write-commits-2 : tie.Need-element-write-commits-2
 element-write-commits-2 c = search needs
 
--- src/lib.rt:179:29
 enum-known-op-4 : tie.Need-enum-known-op-4
 enum-known-op-4 c = search needs
 
--- src/lib.rt:180:21
 cast-n : tie.Need-cast-n
 cast-n c = search needs
 
--- src/lib.rt:181:21
 mul-s : tie.Need-mul-s
 mul-s c = search needs
 
--- src/lib.rt:181:21
 element-copy-out-s : tie.Need-element-copy-out-s
 element-copy-out-s c = rw (c .before .before .op4 .given .1) at (c .before .before .before .before .before .pre .1 .1)
 
--- src/lib.rt:182:25
 mul-x : tie.Need-mul-x
 mul-x c = search needs
 
--- src/lib.rt:182:25
 element-copy-out-x : tie.Need-element-copy-out-x
 element-copy-out-x c = search needs
 
--- src/lib.rt:184:62
 mul-wrong-5 : tie.Need-mul-wrong-5
 mul-wrong-5 c = search needs
 
--- src/lib.rt:184:62
 element-copy-out-wrong-5 : tie.Need-element-copy-out-wrong-5
 element-copy-out-wrong-5 c = search needs
 
--- src/lib.rt:184:73
 mul-wrong-6 : tie.Need-mul-wrong-6
 mul-wrong-6 c = search needs
 
--- src/lib.rt:184:73
 element-copy-out-wrong-6 : tie.Need-element-copy-out-wrong-6
 element-copy-out-wrong-6 c = search needs
 
--- src/lib.rt:184:17
 wrong-requires-4 : tie.Need-wrong-requires-4
 wrong-requires-4 c κs = search needs
 
--- src/lib.rt:184:17
 returns-4 : tie.Need-returns-4
 unfolding judgeOperation
 returns-4 c =
     (rw (c .before .before .before .before .before .before .before .before .op4 .given .1, c .wrong4 .ensures, eq-eqb _ _ (c .before .before .before .if4 .taken)), rw (c .wrong4 .ensures))
 
--- src/lib.rt:186:13
 mul-sets : tie.Need-mul-sets
 mul-sets c = search needs
 
--- src/lib.rt:186:13
 element-write-sets : tie.Need-element-write-sets
 element-write-sets c =
     rw (c .before .before .before .before .before .op4 .given .1) at (c .before .before .before .before .before .before .before .before .pre .1 .1)
 
--- src/lib.rt:190:16
 enum-told-2 : tie.Need-enum-told-2
 enum-told-2 c = search needs
 
--- src/lib.rt:191:17
 mul-begins : tie.Need-mul-begins
 mul-begins c = search needs
 
--- src/lib.rt:191:17
 element-write-begins : tie.Need-element-write-begins
 element-write-begins c = search needs
 
--- src/lib.rt:192:17
 mul-commits-3 : tie.Need-mul-commits-3
 mul-commits-3 c = search needs
 
--- src/lib.rt:192:17
 element-write-commits-3 : tie.Need-element-write-commits-3
 element-write-commits-3 c = search needs
 
--- src/lib.rt:196:27
 enum-told-3 : tie.Need-enum-told-3
 enum-told-3 c = search needs
 
--- src/lib.rt:136:1
 returns-5 : tie.Need-returns-5
 unfolding judgeOperation
 returns-5 c =
@@ -334,19 +256,16 @@ returns-5 c =
     let e = sym (c .before .before .before .after-commit .ensures) ∙ c .before .before .if1 .left in
     (rw (c .before .before .before .before .before .before .op .given .1) (acquire-else (a .i) (a .thread) (a .d) b m j e (c .before .before .before .before .before .before .op .given .0 .0)), rw (c .before .before .before .before .before .before .op .given .1, c .single2 .ensures))
 
--- src/lib.rt:136:1
 returns-6 : tie.Need-returns-6
 unfolding judgeOperation
 returns-6 c =
     (rw (c .before .before .before .before .before .op2 .given .1, c .commit-at .ensures), rw (c .before .before .before .before .before .op2 .given .1, c .before .before .single3 .ensures))
 
--- src/lib.rt:136:1
 returns-7 : tie.Need-returns-7
 unfolding judgeOperation
 returns-7 c =
     (rw (c .before .before .before .before .before .before .before .before .op3 .given .1, c .wrong2 .ensures, c .before .single4 .ensures, sym (c .before .before .before .before .before .contains .ensures) ∙ c .before .before .before .before .if2 .left), rw (c .wrong2 .ensures))
 
--- src/lib.rt:136:1
 returns-8 : tie.Need-returns-8
 unfolding judgeOperation
 returns-8 c =
@@ -357,23 +276,19 @@ returns-8 c =
     let e = sym (c .before .before .after-commit2 .ensures) ∙ c .before .if3 .left in
     (rw (c .before .before .before .before .enum-told .given .1, c .commit-at2 .ensures) (unprotected-else (a .i) (a .thread) (a .d) b m j e (withCommit (a .thread) (committed (a .d) m (a .i)) j)), rw (c .before .before .before .before .enum-told .given .1))
 
--- src/lib.rt:136:1
 returns-9 : tie.Need-returns-9
 unfolding judgeOperation
 returns-9 c =
     (rw (c .before .before .before .before .before .op4 .given .1, ne-eqb _ _ (c .if4 .left)), rw (c .before .before .before .before .before .op4 .given .1))
 
--- src/lib.rt:136:1
 returns-10 : tie.Need-returns-10
 unfolding judgeOperation
 returns-10 c = (rw (c .before .enum-told2 .given .1, eq-eqb _ _ (c .if5 .taken)), rw (c .before .enum-told2 .given .1))
 
--- src/lib.rt:136:1
 returns-11 : tie.Need-returns-11
 unfolding judgeOperation
 returns-11 c = (rw (c .before .enum-told2 .given .1, ne-eqb _ _ (c .if5 .left)), rw (c .before .enum-told2 .given .1))
 
--- src/lib.rt:136:1
 returns-12 : tie.Need-returns-12
 unfolding judgeOperation
 returns-12 c = (rw (c .enum-told3 .given .1), rw (c .enum-told3 .given .1))

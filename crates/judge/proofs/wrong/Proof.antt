@@ -2,20 +2,13 @@ use Rattle.judge.proofs.Laws.{marks}
 use borrow.Author.Needs.{needs}
 use Rattle.judge.proofs.wrong.Statement.{statement}
 use Rattle.judge.proofs.wrong.Tie as tie
-use Rattle.judge.proofs.wrong.Reads as reads
-use Rattle.judge.proofs.wrong.Lts as lts
-use Rattle.judge.proofs.begin_mark.Reads as begin-mark-reads
-use Rattle.judge.proofs.commit_mark.Reads as commit-mark-reads
 
--- src/lib.rt:97:9
 begin-mark-requires : tie.Need-begin-mark-requires
 begin-mark-requires c κs = search needs
 
--- src/lib.rt:98:9
 commit-mark-requires : tie.Need-commit-mark-requires
 commit-mark-requires c κs = search needs
 
--- src/lib.rt:94:1
 returns : tie.Need-returns
 returns c =
     let a = c .before .before .args in

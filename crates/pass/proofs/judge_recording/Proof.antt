@@ -4,20 +4,14 @@ use Rattle.pass.specs.Pass.{judgement}
 use borrow.Author.Needs.{needs}
 use Rattle.pass.proofs.judge_recording.Statement.{statement}
 use Rattle.pass.proofs.judge_recording.Tie as tie
-use Rattle.pass.proofs.judge_recording.Reads as reads
-use Rattle.pass.proofs.judge_recording.Lts as lts
-use Rattle.pass.proofs.run.Reads as run-reads
 
--- src/lib.rt:70:9
 returns : tie.Need-returns
 unfolding judgement
 returns c = (simp (lt-ltb _ _ (c .if1 .taken)), refl)
 
--- src/lib.rt:75:5
 run-requires : tie.Need-run-requires
 run-requires c κs = search needs
 
--- src/lib.rt:65:1
 returns-2 : tie.Need-returns-2
 returns-2 c = search needs
 

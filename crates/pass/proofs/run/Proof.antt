@@ -1,24 +1,14 @@
 -- Each return and each turn is a law of proofs/Turn at the values that the code has there.
-use Prim.Native.Nat.{ℕ, _+_, _-_, _≤_, _<_}
-use mathlib.Core.Path.{_≡_, refl, sym, ap, _∙_}
+use Prim.Native.Nat.{_-_}
+use mathlib.Core.Path.{refl, sym, ap, _∙_}
 use native.Mathlib.Omega.{arith}
 use borrow.Author.Needs.{needs}
-use lib.ListN.{length, drop}
+use lib.ListN.{length}
 use Rattle.frame.proofs.Laws.{decoded-in-range}
 use Rattle.soundness.specs.Soundness.{Checked}
 use Rattle.pass.proofs.Turn.{Inv, starts, answers, turn-end, turn-bad, turn-fail, turn-held, turn-wrong, turn-next}
 use Rattle.pass.proofs.run.Statement.{statement}
 use Rattle.pass.proofs.run.Tie as tie
-use Rattle.pass.proofs.run.Reads as reads
-use Rattle.pass.proofs.run.Lts as lts
-use Rattle.frame.proofs.decode.Reads as decode-reads
-use Rattle.frame.proofs.refusal_of.Reads as refusal-of-reads
-use Rattle.judge.proofs.judge.Reads as judge-reads
-use Rattle.judge.proofs.operation_of.Reads as operation-of-reads
-use Rattle.pass.proofs.after_check.Reads as after-check-reads
-use Rattle.soundness.proofs.check_from.Reads as check-from-reads
-use Rattle.soundness.proofs.outcome_refusal.Reads as outcome-refusal-reads
-use Rattle.soundness.proofs.step.Reads as step-reads
 
 abbrev Inv-loop : tie.InvT-loop
 Inv-loop words guards sets₀ owners₀ depths₀ held₀ begins₀ commits₀ i₀ sets owners depths held begins commits i = Inv words guards sets₀ sets owners depths held begins commits i
@@ -26,39 +16,30 @@ Inv-loop words guards sets₀ owners₀ depths₀ held₀ begins₀ commits₀ i
 abbrev μ-loop : tie.MeasureT-loop
 μ-loop words guards sets₀ owners₀ depths₀ held₀ begins₀ commits₀ i₀ sets owners depths held begins commits i = length words - i
 
--- src/lib.rt:35:5
 loop-holds : tie.Need-loop-holds Inv-loop μ-loop
 loop-holds c = starts _ _ _
 
--- src/lib.rt:36:31
 mul-decode : tie.Need-mul-decode Inv-loop μ-loop
 mul-decode c = search needs
 
--- src/lib.rt:36:31
 shared-slice-read-decode : tie.Need-shared-slice-read-decode Inv-loop μ-loop
 shared-slice-read-decode c = search needs
 
--- src/lib.rt:36:13
 decode-requires : tie.Need-decode-requires Inv-loop μ-loop
 decode-requires c κs = search needs
 
--- src/lib.rt:37:28
 enum-known-d : tie.Need-enum-known-d Inv-loop μ-loop
 enum-known-d c = search needs
 
--- src/lib.rt:39:25
 enum-told : tie.Need-enum-told Inv-loop μ-loop
 enum-told c = search needs
 
--- src/lib.rt:39:25
 refusal-of-requires : tie.Need-refusal-of-requires Inv-loop μ-loop
 refusal-of-requires c κs = search needs
 
--- src/lib.rt:40:24
 cast-t25 : tie.Need-cast-t25 Inv-loop μ-loop
 cast-t25 c = search needs
 
--- src/lib.rt:38:13
 returns : tie.Need-returns Inv-loop μ-loop
 returns c =
     let inv = c .before .before .before .before .before .before .loop .inv in
@@ -67,16 +48,13 @@ returns c =
     let told = c .before .enum-told .given in
     answers (a .words .now) (a .guards .now) (a .sets .now) _ _ _ (c .before .before .before .before .before .before .before .before .pre) (rw (c .refusal-of .ensures, told .1)) (turn-bad inv h (sym (c .before .before .before .decode .ensures) ∙ told .1))
 
--- src/lib.rt:44:17
 cast-t : tie.Need-cast-t Inv-loop μ-loop
 cast-t c = search needs
 
--- src/lib.rt:45:21
 array-read-depth : tie.Need-array-read-depth Inv-loop μ-loop
 array-read-depth c =
     decoded-in-range _ _ (sym (c .before .before .before .before .before .decode .ensures) ∙ c .before .before .before .d .given .1) .thread
 
--- src/lib.rt:46:13
 step-requires : tie.Need-step-requires Inv-loop μ-loop
 step-requires c κs =
     decoded-in-range _ _ (sym (c .before .before .before .before .before .before .before .decode .ensures) ∙ c .before .before .before .before .before .d .given .1)
@@ -84,19 +62,15 @@ step-requires c κs =
 enum-told-2 : tie.Need-enum-told-2 Inv-loop μ-loop
 enum-told-2 c = search needs
 
--- src/lib.rt:49:25
 enum-told-3 : tie.Need-enum-told-3 Inv-loop μ-loop
 enum-told-3 c = search needs
 
--- src/lib.rt:49:25
 outcome-refusal-requires : tie.Need-outcome-refusal-requires Inv-loop μ-loop
 outcome-refusal-requires c κs = search needs
 
--- src/lib.rt:50:24
 cast-t33 : tie.Need-cast-t33 Inv-loop μ-loop
 cast-t33 c = search needs
 
--- src/lib.rt:48:13
 returns-2 : tie.Need-returns-2 Inv-loop μ-loop
 returns-2 c =
     let inv = c .before .before .before .before .before .before .before .before .before .before .before .before .before .before .loop .inv in
@@ -107,16 +81,13 @@ returns-2 c =
     let told = c .before .enum-told3 .given in
     answers (a .words .now) (a .guards .now) (a .sets .now) _ _ _ (c .before .before .before .before .before .before .before .before .before .before .before .before .before .before .before .before .pre) (rw (c .outcome-refusal .ensures, told .1)) (turn-fail inv h e (rw (told .1) at (p .ensures)))
 
--- src/lib.rt:54:13
 operation-of-requires : tie.Need-operation-of-requires Inv-loop μ-loop
 operation-of-requires c κs =
     decoded-in-range _ _ (sym (c .before .before .before .before .before .before .before .before .before .before .decode .ensures) ∙ c .before .before .before .before .before .before .before .before .d .given .1) .object
 
--- src/lib.rt:55:81
 cast-judge : tie.Need-cast-judge Inv-loop μ-loop
 cast-judge c = search needs
 
--- src/lib.rt:55:13
 judge-requires : tie.Need-judge-requires Inv-loop μ-loop
 judge-requires c κs =
     let inv = c .before .before .before .before .before .before .before .before .before .before .before .before .before .before .before .before .before .before .loop .inv in
@@ -130,24 +101,19 @@ judge-requires c κs =
 enum-told-4 : tie.Need-enum-told-4 Inv-loop μ-loop
 enum-told-4 c = search needs
 
--- src/lib.rt:57:50
 enum-told-5 : tie.Need-enum-told-5 Inv-loop μ-loop
 enum-told-5 c = search needs
 
--- src/lib.rt:57:76
 add-check-from : tie.Need-add-check-from Inv-loop μ-loop
 add-check-from c = search needs
 
--- src/lib.rt:57:17
 check-from-requires : tie.Need-check-from-requires Inv-loop μ-loop
 check-from-requires c κs =
     (omega (arith, c .before .before .before .before .before .before .before .before .before .before .before .before .before .before .before .before .before .before .before .before .before .before .loop-test .taken), omega (arith, c .before .before .before .before .before .before .before .before .before .before .before .before .before .before .before .before .before .before .before .before .before .before .before .before .before .pre))
 
--- src/lib.rt:58:13
 after-check-requires : tie.Need-after-check-requires Inv-loop μ-loop
 after-check-requires c κs = search needs
 
--- src/lib.rt:58:13
 returns-3 : tie.Need-returns-3 Inv-loop μ-loop
 returns-3 c =
     let inv = c .before .before .before .before .before .before .before .before .before .before .before .before .before .before .before .before .before .before .before .before .before .before .before .before .before .loop .inv in
@@ -159,15 +125,12 @@ returns-3 c =
     let w = turn-wrong inv h e g (c .before .before .before .before .before .before .before .before .before .before .before .operation-of .ensures) (c .before .before .before .before .before .before .judge .ensures .0) (c .before .before .before .before .enum-told5 .given .1) in
     answers (a .words .now) (a .guards .now) (a .sets .now) _ _ _ (c .before .before .before .before .before .before .before .before .before .before .before .before .before .before .before .before .before .before .before .before .before .before .before .before .before .before .before .pre) (rw (c .after-check .ensures, ap (λ (x : Checked). x .reply) (c .before .check-from .ensures))) w
 
--- src/lib.rt:60:9
 add-i : tie.Need-add-i Inv-loop μ-loop
 add-i c = search needs
 
--- src/lib.rt:35:5
 loop-less : tie.Need-loop-less Inv-loop μ-loop
 loop-less c = search needs
 
--- src/lib.rt:35:5
 loop-again : tie.Need-loop-again Inv-loop μ-loop
 loop-again c =
     let inv = c .before .before .before .before .before .before .before .before .before .before .before .before .before .before .before .before .before .before .before .before .before .loop .inv in
@@ -178,7 +141,6 @@ loop-again c =
     let g = rw (c .before .before .before .before .before .before .before .before .enum-told2 .given .1) at (p .ensures) in
     turn-next inv h e g (c .before .before .before .before .before .before .before .operation-of .ensures) (c .before .before .judge .ensures .0) (c .enum-told4 .given .1) (c .before .before .judge .ensures .1)
 
--- src/lib.rt:24:1
 returns-4 : tie.Need-returns-4 Inv-loop μ-loop
 returns-4 c =
     let a = c .before .before .before .args in

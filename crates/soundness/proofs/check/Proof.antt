@@ -1,23 +1,17 @@
-use mathlib.Core.Path.{_≡_, sym, ap, _∙_}
+use mathlib.Core.Path.{sym, ap, _∙_}
 use borrow.Author.Tests.{lt-ltb}
 use Rattle.soundness.specs.Soundness.{Checked, start}
 use Rattle.soundness.proofs.Laws.{check-short}
 use borrow.Author.Needs.{needs}
 use Rattle.soundness.proofs.check.Statement.{statement}
 use Rattle.soundness.proofs.check.Tie as tie
-use Rattle.soundness.proofs.check.Reads as reads
-use Rattle.soundness.proofs.check.Lts as lts
-use Rattle.soundness.proofs.check_from.Reads as check-from-reads
 
--- src/lib.rt:112:9
 returns : tie.Need-returns
 returns c = simp (lt-ltb _ _ (c .if1 .taken))
 
--- src/lib.rt:119:5
 check-from-requires : tie.Need-check-from-requires
 check-from-requires c κs = search needs
 
--- src/lib.rt:108:1
 returns-2 : tie.Need-returns-2
 unfolding start
 returns-2 c =

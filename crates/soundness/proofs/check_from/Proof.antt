@@ -1,5 +1,5 @@
 -- Invariant: the pass is that of going on from place i with the locks and blocks in the two arrays.
-use Prim.Native.Nat.{ℕ, _+_, _-_, _≤_, _<_}
+use Prim.Native.Nat.{_-_, _≤_}
 use mathlib.Core.Path.{_≡_, refl, sym, _∙_}
 use native.Mathlib.Omega.{arith}
 use borrow.Author.Needs.{needs}
@@ -9,12 +9,6 @@ use Rattle.soundness.specs.Soundness.{checkFrom, stateOf}
 use Rattle.soundness.proofs.Laws.{check-end, check-bad, check-fail, check-next}
 use Rattle.soundness.proofs.check_from.Statement.{statement}
 use Rattle.soundness.proofs.check_from.Tie as tie
-use Rattle.soundness.proofs.check_from.Reads as reads
-use Rattle.soundness.proofs.check_from.Lts as lts
-use Rattle.frame.proofs.decode.Reads as decode-reads
-use Rattle.frame.proofs.refusal_of.Reads as refusal-of-reads
-use Rattle.soundness.proofs.outcome_refusal.Reads as outcome-refusal-reads
-use Rattle.soundness.proofs.step.Reads as step-reads
 
 abbrev Inv-loop : tie.InvT-loop
 Inv-loop words owners₀ depths₀ from i₀ owners depths i =
@@ -23,39 +17,30 @@ Inv-loop words owners₀ depths₀ from i₀ owners depths i =
 abbrev μ-loop : tie.MeasureT-loop
 μ-loop words owners₀ depths₀ from i₀ owners depths i = length words - i
 
--- src/lib.rt:87:5
 loop-holds : tie.Need-loop-holds Inv-loop μ-loop
 loop-holds c = (search needs, refl)
 
--- src/lib.rt:88:31
 mul-decode : tie.Need-mul-decode Inv-loop μ-loop
 mul-decode c = search needs
 
--- src/lib.rt:88:31
 shared-slice-read-decode : tie.Need-shared-slice-read-decode Inv-loop μ-loop
 shared-slice-read-decode c = search needs
 
--- src/lib.rt:88:13
 decode-requires : tie.Need-decode-requires Inv-loop μ-loop
 decode-requires c κs = search needs
 
--- src/lib.rt:89:28
 enum-known-d : tie.Need-enum-known-d Inv-loop μ-loop
 enum-known-d c = search needs
 
--- src/lib.rt:91:25
 enum-told : tie.Need-enum-told Inv-loop μ-loop
 enum-told c = search needs
 
--- src/lib.rt:91:25
 refusal-of-requires : tie.Need-refusal-of-requires Inv-loop μ-loop
 refusal-of-requires c κs = search needs
 
--- src/lib.rt:92:24
 cast-t14 : tie.Need-cast-t14 Inv-loop μ-loop
 cast-t14 c = search needs
 
--- src/lib.rt:90:13
 returns : tie.Need-returns Inv-loop μ-loop
 returns c =
     let l = c .before .before .before .before .before .before .loop in
@@ -65,7 +50,6 @@ returns c =
     let told = c .before .enum-told .given in
     rw (c .refusal-of .ensures, told .1) (sym (l .inv .1 ∙ check-bad ws (l .i) s h _ (sym (c .before .before .before .decode .ensures) ∙ told .1)))
 
--- src/lib.rt:95:13
 step-requires : tie.Need-step-requires Inv-loop μ-loop
 step-requires c κs =
     decoded-in-range _ _ (sym (c .before .before .before .before .before .decode .ensures) ∙ c .before .before .before .d .given .1)
@@ -73,19 +57,15 @@ step-requires c κs =
 enum-told-2 : tie.Need-enum-told-2 Inv-loop μ-loop
 enum-told-2 c = search needs
 
--- src/lib.rt:98:25
 enum-told-3 : tie.Need-enum-told-3 Inv-loop μ-loop
 enum-told-3 c = search needs
 
--- src/lib.rt:98:25
 outcome-refusal-requires : tie.Need-outcome-refusal-requires Inv-loop μ-loop
 outcome-refusal-requires c κs = search needs
 
--- src/lib.rt:99:24
 cast-t19 : tie.Need-cast-t19 Inv-loop μ-loop
 cast-t19 c = search needs
 
--- src/lib.rt:97:13
 returns-2 : tie.Need-returns-2 Inv-loop μ-loop
 returns-2 c =
     let l = c .before .before .before .before .before .before .before .before .before .before .before .before .loop in
@@ -98,15 +78,12 @@ returns-2 c =
     let told = c .before .enum-told3 .given in
     rw (c .outcome-refusal .ensures, told .1) (sym (l .inv .1 ∙ check-fail ws (l .i) s h _ n f _ (r .ensures ∙ rw (told .1))))
 
--- src/lib.rt:102:9
 add-i : tie.Need-add-i Inv-loop μ-loop
 add-i c = search needs
 
--- src/lib.rt:87:5
 loop-less : tie.Need-loop-less Inv-loop μ-loop
 loop-less c = search needs
 
--- src/lib.rt:87:5
 loop-again : tie.Need-loop-again Inv-loop μ-loop
 loop-again c =
     let l = c .before .before .before .before .before .before .before .before .before .before .before .loop in
@@ -118,7 +95,6 @@ loop-again c =
     let n = stateOf (r .last .0) (r .last .1 .0) in
     (omega arith, l .inv .1 ∙ check-next ws (l .i) s h _ n f (r .ensures ∙ rw (c .enum-told2 .given .1)))
 
--- src/lib.rt:82:1
 returns-3 : tie.Need-returns-3 Inv-loop μ-loop
 returns-3 c =
     let l = c .before .loop in

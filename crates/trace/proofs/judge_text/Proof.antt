@@ -1,4 +1,4 @@
-use mathlib.Core.Path.{_≡_, sym, _∙_}
+use mathlib.Core.Path.{sym, _∙_}
 use lib.ListN.{replicate}
 use lib.Seq.{length-take-le}
 use Rattle.text.proofs.Laws.{after-into}
@@ -6,28 +6,19 @@ use Rattle.trace.specs.Trace.{textJudged}
 use borrow.Author.Needs.{needs}
 use Rattle.trace.proofs.judge_text.Statement.{statement}
 use Rattle.trace.proofs.judge_text.Tie as tie
-use Rattle.trace.proofs.judge_text.Reads as reads
-use Rattle.trace.proofs.judge_text.Lts as lts
-use Rattle.text.proofs.read_into.Reads as read-into-reads
-use Rattle.verdict.proofs.inferred_reply.Reads as inferred-reply-reads
 
--- src/lib.rt:48:35
 slice-aggregate-read-into : tie.Need-slice-aggregate-read-into
 slice-aggregate-read-into c = search needs
 
--- src/lib.rt:48:9
 read-into-requires : tie.Need-read-into-requires
 read-into-requires c κs = search needs
 
--- src/lib.rt:50:26
 enum-known-q : tie.Need-enum-known-q
 enum-known-q c = search needs
 
--- src/lib.rt:51:21
 cast-k : tie.Need-cast-k
 cast-k c = search needs
 
--- src/lib.rt:52:45
 array-share-prefix-words : tie.Need-array-share-prefix-words
 array-share-prefix-words c =
     let g = c .before .q .given in
@@ -35,7 +26,6 @@ array-share-prefix-words c =
     let w = after-into (c .before .before .before .before .before .before .before .args .text .now) (replicate 4096 0) (g .0 .0) (r .last .1 .0) (r .result) (g .1) (r .ensures .1) in
     w .fits
 
--- src/lib.rt:52:45
 slice-aggregate-inferred-reply : tie.Need-slice-aggregate-inferred-reply
 slice-aggregate-inferred-reply c =
     let g = c .before .before .q .given in
@@ -43,15 +33,12 @@ slice-aggregate-inferred-reply c =
     let w = after-into (c .before .before .before .before .before .before .before .before .args .text .now) (replicate 4096 0) (g .0 .0) (r .last .1 .0) (r .result) (g .1) (r .ensures .1) in
     sym (length-take-le _ _ (w .fits))
 
--- src/lib.rt:52:17
 inferred-reply-requires : tie.Need-inferred-reply-requires
 inferred-reply-requires c κs = search needs
 
--- src/lib.rt:58:28
 enum-known-q-2 : tie.Need-enum-known-q-2
 enum-known-q-2 c = search needs
 
--- src/lib.rt:44:1
 returns : tie.Need-returns
 unfolding textJudged
 returns c =
@@ -61,7 +48,6 @@ returns c =
     let e = rw (w .words) at (c .inferred-reply .ensures) in
     rw (sym (r .ensures .0) ∙ g .1, e)
 
--- src/lib.rt:44:1
 returns-2 : tie.Need-returns-2
 unfolding textJudged
 returns-2 c = rw (sym (c .before .before .before .before .read-into .ensures .0) ∙ c .before .q2 .given .1)

@@ -1,4 +1,4 @@
-use mathlib.Core.Path.{_≡_, sym, _∙_}
+use mathlib.Core.Path.{sym, _∙_}
 use lib.ListN.{length}
 use borrow.Author.Tests.{lt-ltb, le-ltb}
 use Rattle.reply.specs.declared.Verdict.the-variants.{Reducible}
@@ -7,32 +7,22 @@ use Rattle.trace.proofs.Laws.{frames-whole}
 use borrow.Author.Needs.{needs}
 use Rattle.trace.proofs.trace_declared.Statement.{statement}
 use Rattle.trace.proofs.trace_declared.Tie as tie
-use Rattle.trace.proofs.trace_declared.Reads as reads
-use Rattle.trace.proofs.trace_declared.Lts as lts
-use Rattle.trace.proofs.answer.Reads as answer-reads
-use Rattle.verdict.proofs.declared.Reads as declared-reads
 
--- src/lib.rt:112:9
 returns : tie.Need-returns
 returns c = (simp (lt-ltb _ _ (c .if1 .taken)), simp (lt-ltb _ _ (c .if1 .taken)))
 
--- src/lib.rt:114:9
 declared-requires : tie.Need-declared-requires
 declared-requires c κs = search needs
 
--- src/lib.rt:115:21
 cast-answer : tie.Need-cast-answer
 cast-answer c = search needs
 
--- src/lib.rt:115:5
 answer-requires : tie.Need-answer-requires
 answer-requires c κs = search needs
 
--- src/lib.rt:106:1
 same-length : tie.Need-same-length
 same-length c = search needs
 
--- src/lib.rt:106:1
 returns-2 : tie.Need-returns-2
 returns-2 c =
     let d = c .before .before .before .before .declared in

@@ -1,39 +1,28 @@
-use mathlib.Core.Path.{_≡_, sym, ap, _∙_}
+use mathlib.Core.Path.{sym, ap, _∙_}
 use Rattle.guards.specs.declared.GuardsRead.{GuardsRead}
 use borrow.Author.Needs.{needs}
 use Rattle.trace.proofs.trace_guards.Statement.{statement}
 use Rattle.trace.proofs.trace_guards.Tie as tie
-use Rattle.trace.proofs.trace_guards.Reads as reads
-use Rattle.trace.proofs.trace_guards.Lts as lts
-use Rattle.guards.proofs.read_guards.Reads as read-guards-reads
-use Rattle.trace.proofs.pack.Reads as pack-reads
 
--- src/lib.rt:97:9
 read-guards-requires : tie.Need-read-guards-requires
 read-guards-requires c κs = search needs
 
--- src/lib.rt:100:28
 enum-known-q : tie.Need-enum-known-q
 enum-known-q c = search needs
 
--- src/lib.rt:100:34
 cast-result : tie.Need-cast-result
 cast-result c = search needs
 
--- src/lib.rt:101:30
 enum-known-q-2 : tie.Need-enum-known-q-2
 enum-known-q-2 c = search needs
 
--- src/lib.rt:101:36
 pack-requires : tie.Need-pack-requires
 pack-requires c κs = search needs
 
--- src/lib.rt:93:1
 returns : tie.Need-returns
 returns c =
     rw (sym (ap (λ (x : GuardsRead). x .reply) (c .before .before .before .read-guards .ensures)) ∙ c .before .q .given .1)
 
--- src/lib.rt:93:1
 returns-2 : tie.Need-returns-2
 returns-2 c =
     rw (sym (ap (λ (x : GuardsRead). x .reply) (c .before .before .before .before .read-guards .ensures)) ∙ c .before .before .q2 .given .1) (c .pack .ensures)

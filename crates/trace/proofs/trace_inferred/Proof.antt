@@ -1,4 +1,4 @@
-use mathlib.Core.Path.{_≡_, refl, sym, _∙_}
+use mathlib.Core.Path.{sym, _∙_}
 use lib.ListN.{length}
 use borrow.Author.Tests.{lt-ltb, le-ltb}
 use Rattle.reply.specs.declared.Verdict.the-variants.{Reducible}
@@ -7,38 +7,27 @@ use Rattle.trace.proofs.Laws.{frames-whole}
 use borrow.Author.Needs.{needs}
 use Rattle.trace.proofs.trace_inferred.Statement.{statement}
 use Rattle.trace.proofs.trace_inferred.Tie as tie
-use Rattle.trace.proofs.trace_inferred.Reads as reads
-use Rattle.trace.proofs.trace_inferred.Lts as lts
-use Rattle.trace.proofs.answer.Reads as answer-reads
-use Rattle.verdict.proofs.inferred.Reads as inferred-reads
 
--- src/lib.rt:126:9
 returns : tie.Need-returns
 returns c =
     let t = lt-ltb _ _ (c .if1 .taken) in
     (simp t, (simp t, simp t))
 
--- src/lib.rt:128:9
 inferred-requires : tie.Need-inferred-requires
 inferred-requires c κs = search needs
 
--- src/lib.rt:129:21
 cast-answer : tie.Need-cast-answer
 cast-answer c = search needs
 
--- src/lib.rt:129:5
 answer-requires : tie.Need-answer-requires
 answer-requires c κs = search needs
 
--- src/lib.rt:119:1
 same-length : tie.Need-same-length
 same-length c = search needs
 
--- src/lib.rt:119:1
 same-length-2 : tie.Need-same-length-2
 same-length-2 c = search needs
 
--- src/lib.rt:119:1
 returns-2 : tie.Need-returns-2
 returns-2 c =
     let d = c .before .before .before .before .before .before .inferred in

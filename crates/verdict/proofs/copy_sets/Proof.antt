@@ -1,5 +1,5 @@
 -- Invariant: the first i entries are copied, and the rest is as it was.
-use Prim.Native.Nat.{ℕ, _-_, _≤_}
+use Prim.Native.Nat.{_-_, _≤_}
 use mathlib.Core.Path.{_≡_, refl}
 use mathlib.Core.List.{_++_}
 use native.Mathlib.Omega.{arith}
@@ -9,8 +9,6 @@ use lib.Seq.{take-all}
 use Rattle.verdict.proofs.Laws.{copy-turn}
 use Rattle.verdict.proofs.copy_sets.Statement.{statement}
 use Rattle.verdict.proofs.copy_sets.Tie as tie
-use Rattle.verdict.proofs.copy_sets.Reads as reads
-use Rattle.verdict.proofs.copy_sets.Lts as lts
 
 abbrev Inv-loop : tie.InvT-loop
 Inv-loop from to₀ i₀ to i = (i ≤ 1024) × (to ≡ take i from ++ drop i to₀) × (length to ≡ length to₀)
@@ -18,35 +16,27 @@ Inv-loop from to₀ i₀ to i = (i ≤ 1024) × (to ≡ take i from ++ drop i to
 abbrev μ-loop : tie.MeasureT-loop
 μ-loop from to₀ i₀ to i = 1024 - i
 
--- src/lib.rt:41:5
 loop-holds : tie.Need-loop-holds Inv-loop μ-loop
 loop-holds c = (omega arith, refl, refl)
 
--- src/lib.rt:42:17
 mul-to : tie.Need-mul-to Inv-loop μ-loop
 mul-to c = search needs
 
--- src/lib.rt:42:17
 element-copy-out-to : tie.Need-element-copy-out-to Inv-loop μ-loop
 element-copy-out-to c = search needs
 
--- src/lib.rt:42:9
 mul-to-2 : tie.Need-mul-to-2 Inv-loop μ-loop
 mul-to-2 c = search needs
 
--- src/lib.rt:42:9
 slice-write-to : tie.Need-slice-write-to Inv-loop μ-loop
 slice-write-to c = search needs
 
--- src/lib.rt:43:9
 add-i : tie.Need-add-i Inv-loop μ-loop
 add-i c = search needs
 
--- src/lib.rt:41:5
 loop-less : tie.Need-loop-less Inv-loop μ-loop
 loop-less c = search needs
 
--- src/lib.rt:41:5
 loop-again : tie.Need-loop-again Inv-loop μ-loop
 loop-again c =
     let l = c .before .before .loop in
@@ -54,11 +44,9 @@ loop-again c =
     let h = c .before .loop-test .taken in
     (omega arith, rw (l .inv .1) (copy-turn (a .from .now) (a .to .now) (l .i) (omega (arith, c .before .before .before .pre .0)) (omega (arith, c .before .before .before .pre .1))), simp length-set (l .inv .2))
 
--- src/lib.rt:36:1
 same-length : tie.Need-same-length Inv-loop μ-loop
 same-length c = search needs
 
--- src/lib.rt:36:1
 returns : tie.Need-returns Inv-loop μ-loop
 returns c =
     let l = c .before .loop in

@@ -1,32 +1,23 @@
-use mathlib.Core.Path.{_≡_, sym, ap, _∙_}
+use mathlib.Core.Path.{sym, ap, _∙_}
 use Rattle.guards.specs.declared.GuardsRead.{GuardsRead}
 use Rattle.pass.specs.Pass.{fullSets}
 use Rattle.verdict.specs.Verdict.{declaredReply}
 use borrow.Author.Needs.{needs}
 use Rattle.verdict.proofs.declared.Statement.{statement}
 use Rattle.verdict.proofs.declared.Tie as tie
-use Rattle.verdict.proofs.declared.Reads as reads
-use Rattle.verdict.proofs.declared.Lts as lts
-use Rattle.guards.proofs.read_guards.Reads as read-guards-reads
-use Rattle.pass.proofs.judge_recording.Reads as judge-recording-reads
-use Rattle.verdict.proofs.guards_refused.Reads as guards-refused-reads
 
--- src/lib.rt:26:9
 read-guards-requires : tie.Need-read-guards-requires
 read-guards-requires c κs = search needs
 
 enum-told : tie.Need-enum-told
 enum-told c = search needs
 
--- src/lib.rt:29:9
 enum-told-2 : tie.Need-enum-told-2
 enum-told-2 c = search needs
 
--- src/lib.rt:29:9
 guards-refused-requires : tie.Need-guards-refused-requires
 guards-refused-requires c κs = search needs
 
--- src/lib.rt:29:9
 returns : tie.Need-returns
 unfolding declaredReply
 returns c =
@@ -34,11 +25,9 @@ returns c =
     let e = sym (ap (λ (x : GuardsRead). x .reply) (c .before .before .before .read-guards .ensures)) ∙ told in
     rw (e, c .guards-refused .ensures, told)
 
--- src/lib.rt:33:5
 judge-recording-requires : tie.Need-judge-recording-requires
 judge-recording-requires c κs = search needs
 
--- src/lib.rt:23:1
 returns-2 : tie.Need-returns-2
 unfolding declaredReply fullSets
 returns-2 c =

@@ -1,7 +1,6 @@
-use mathlib.Core.Path.{_≡_, refl, sym, _∙_}
-use native.Mathlib.Omega.{arith}
+use mathlib.Core.Path.{sym, _∙_}
 use borrow.Author.Needs.{needs}
-use lib.ListN.{length, replicate}
+use lib.ListN.{length}
 use Rattle.pass.proofs.Sets.{judgement-length}
 use Rattle.pass.specs.Pass.{fullSets}
 use Rattle.verdict.specs.Verdict.{inferredGuards}
@@ -9,24 +8,16 @@ use Rattle.verdict.proofs.Laws.{refused-reply, refused-sets, short-repl
 use borrow.Author.Needs.{needs}
 use Rattle.verdict.proofs.inferred.Statement.{statement}
 use Rattle.verdict.proofs.inferred.Tie as tie
-use Rattle.verdict.proofs.inferred.Reads as reads
-use Rattle.verdict.proofs.inferred.Lts as lts
-use Rattle.pass.proofs.judge_recording.Reads as judge-recording-reads
-use Rattle.verdict.proofs.copy_sets.Reads as copy-sets-reads
 
--- src/lib.rt:53:9
 judge-recording-requires : tie.Need-judge-recording-requires
 judge-recording-requires c κs = search needs
 
--- src/lib.rt:54:23
 enum-known-r : tie.Need-enum-known-r
 enum-known-r c = search needs
 
--- src/lib.rt:55:9
 enum-told : tie.Need-enum-told
 enum-told c = search needs
 
--- src/lib.rt:55:9
 returns : tie.Need-returns
 unfolding inferredGuards fullSets
 returns c =
@@ -35,7 +26,6 @@ returns c =
     let e = sym (c .before .before .judge-recording .ensures .0) ∙ told in
     (told ∙ sym (refused-reply (a .words .now) (a .sets .now) _ e (length (a .sets .now))), sym (refused-sets (a .words .now) (a .sets .now) _ e))
 
--- src/lib.rt:58:9
 returns-2 : tie.Need-returns-2
 unfolding inferredGuards fullSets
 returns-2 c =
@@ -43,7 +33,6 @@ returns-2 c =
     let e = sym (c .before .before .before .before .judge-recording .ensures .0) ∙ c .before .before .r .given .1 in
     (sym (short-reply (a .words .now) (a .sets .now) _ e (c .if1 .taken)), sym (short-sets (a .words .now) (a .sets .now) _ e (c .if1 .taken)))
 
--- src/lib.rt:63:5
 copy-sets-requires : tie.Need-copy-sets-requires
 unfolding inferredGuards fullSets
 copy-sets-requires c κs =
@@ -51,11 +40,9 @@ copy-sets-requires c κs =
     let s = rw (c .before .before .before .before .r .given .1) at (j .ensures .1) in
     (rw s (judgement-length inferredGuards fullSets (c .before .before .before .before .before .before .before .before .before .before .before .args .words .now)), c .before .before .if1 .left)
 
--- src/lib.rt:47:1
 same-length : tie.Need-same-length
 same-length c = search needs
 
--- src/lib.rt:47:1
 returns-3 : tie.Need-returns-3
 unfolding inferredGuards fullSets
 returns-3 c =
