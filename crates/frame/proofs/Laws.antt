@@ -5,6 +5,7 @@ use mathlib.Core.Bool.{Bool, true, false}
 use native.Mathlib.Omega.{arith}
 use lib.Dec.{ltb}
 use borrow.Author.Tests.{le-ltb, le-leb, ltb-false, leb-true, eqb-true}
+use Rattle.frame.proofs.Shared.{never}
 use Rattle.frame.specs.declared.Refusal.{Refusal}
 use Rattle.frame.specs.Frame.{objectFits, actionOf, decodeParts, decodeWord, wordOf, encodeParts, encodeFrame, ObjectInRange, InRange}
 use Rattle.frame.specs.Refusal.{refusalNumber}
@@ -13,9 +14,6 @@ use Rattle.frame.specs.declared.Action.{Action}
 use Rattle.frame.specs.declared.Action.the-variants.{Acquire, Release, Read, Write, Begin, End}
 use Rattle.frame.specs.declared.Refusal.the-variants as refusal
 use Rattle.frame.specs.declared.Decoded.the-variants as decoded
-
-never : {A : Type 0} → _≡_ {A = ℕ} 0 1 → A
-never z = absurd (omega arith)
 
 -- what a decoded frame shows of the parts of its word
 pub record Shown (op t o : ℕ) (f : Frame) : Type 0 where

@@ -1,2 +1,3 @@
--- Laws of frames that crates above cite.
+-- Laws that crates above cite.
+pub mod Shared
 pub mod Laws

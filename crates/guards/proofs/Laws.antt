@@ -11,6 +11,7 @@ use lib.ListN.{length, getD, set, replicate, length-set, length-replicate, getD-
 use lib.Seq.{getD-set-same, getD-set-other, set-out, ext-getD}
 use lib.Dec.{ltb, leb, eqb}
 use borrow.Author.Tests.{lt-ltb, le-ltb, le-leb, lt-leb, ltb-true, ltb-false, leb-true, eqb-true, eqb-false, eq-eqb, ne-eqb}
+use Rattle.frame.proofs.Shared.{never}
 use Rattle.frame.specs.declared.Lock.{Lock}
 use Rattle.frame.specs.declared.Variable.{Variable}
 use Rattle.frame.specs.declared.Refused.{Refused}
@@ -42,9 +43,6 @@ module _ (s : List ℕ) (i : ℕ) (g : List ℕ) where
       → guardsFrom k s i g ≡ onGuardLine (guardLine (lineOf s (9 * i))) i g (λ g′. guardsFrom m s (i + 1) g′)
   unfolding guardsFrom
   guards-step k m e h = rw (e, lt-leb (length s) (9 * i) h)
-
-never : {A : Type 0} → _≡_ {A = ℕ} 0 1 → A
-never z = absurd (omega arith)
 
 same-variable : (v w : Variable) (k l : Lock) → guard-line.Names w l ≡ guard-line.Names v k → v ≡ w
 same-variable v w k l e = cc

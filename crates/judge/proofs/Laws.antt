@@ -10,6 +10,7 @@ use mathlib.Core.List.{List}
 use lib.ListN.{getD, set}
 use lib.Bits.{bitAnd}
 use lib.Pow.{shl-exact}
+use Rattle.frame.proofs.Shared.{never}
 use Rattle.frame.specs.declared.Thread.{Thread}
 use Rattle.reply.specs.declared.Kind.{Kind}
 use Rattle.reply.specs.declared.Mark.the-variants.{At, Absent}
@@ -84,7 +85,7 @@ Keeps j x = (v : Violation) (k : Judging) → x ≡ judged (Violated v) k → k 
 keeps-go : (j n : Judging) → Keeps j (judged Reducible n)
 keeps-go j n v k e =
     let f : Reducible ≡ Violated v = ap (λ (x : Judged). x .verdict) e in
-    let z : _≡_ {A = ℕ} 0 1 = cc in absurd (omega arith)
+    never (cc)
 
 keeps-wrong : (j : Judging) (w : Verdict) → Keeps j (judged w j)
 keeps-wrong j w v k e = sym (ap (λ (x : Judged). x .judging) e)

@@ -5,8 +5,8 @@ use mathlib.Core.List.{List, [], _∷_, _++_, append-assoc}
 use native.Mathlib.Omega.{arith}
 use native.Mathlib.Numerals.{add-one}
 use native.Mathlib.Nat.{add-zero}
-use lib.ListN.{length, replicate, getD, take, drop, set, length-append, take-append-drop}
-use lib.Seq.{drop-cons, take-set-le, drop-set-lt, getD-set-same, append-snoc, lt-length-set, take-at, drop-at, drop-drop, set-at, take-suc, length-take-le}
+use lib.ListN.{length, replicate, take, drop, set, length-append, take-append-drop}
+use lib.Seq.{drop-cons, take-set-le, drop-set-lt, getD-set-same, append-snoc, lt-length-set, take-at, drop-at, drop-drop}
 use Rattle.reply.specs.declared.Reply.{Reply}
 use Rattle.line.specs.declared.Fields.{Fields}
 use Rattle.line.specs.Line.{byteOf, digits, pasted, replyFields, placeWidth, fieldsLine, verdictLine}
@@ -50,14 +50,6 @@ pasted-next s ys xs o p at n l a b =
     let d : drop (at + n) (ys ++ drop at s) ≡ drop (at + n) s =
     sym (drop-drop n at (ys ++ drop at s)) ∙ ap (drop n) (drop-at ys (drop at s) at l) ∙ drop-drop n at s in
     b ∙ rw (a, t, d, append-assoc)
-
--- a byte copied behind those that are copied already: `s` is the buffer at first
-pub copied-next : (l s o : List ℕ) (i : ℕ) → i < length l → i < length s
-    → o ≡ take i l ++ drop i s → set o i (getD l i 0) ≡ take (i + 1) l ++ drop (i + 1) s
-copied-next l s o i h k e =
-    let n : length (take i l) ≡ i = length-take-le i l (omega arith) in
-    rw (e, drop-cons s i 0 k, set-at (take i l) (getD s i 0) (drop (suc i) s) (getD l i 0) i n, add-one i, take-suc l i 0 h)
-    (sym (append-snoc (take i l) (getD l i 0) (drop (suc i) s)))
 
 -- the six fields, written one behind the other over 33 LFs
 pub fields-written : (f : Fields) (a b d e g l : List ℕ) → a ≡ pasted (replicate 33 10) 0 2 (digits 2 (f .kind))

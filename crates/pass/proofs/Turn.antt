@@ -9,6 +9,7 @@ use borrow.Author.Tests.{eqb-true}
 use lib.Dec.{eqb, leb}
 use lib.ListN.{length, getD, set, drop, replicate, length-set, getD-replicate}
 use lib.Seq.{getD-set-same, getD-set-other}
+use Rattle.frame.proofs.Shared.{never}
 use Rattle.frame.specs.Frame.{ObjectInRange, decodeWord}
 use Rattle.frame.proofs.Laws.{decoded-in-range}
 use Rattle.frame.specs.declared.Frame.{Frame}
@@ -34,20 +35,20 @@ use Rattle.pass.specs.Pass.{Ended, ended, judgeFrame, startJudging, judg
 use Rattle.pass.proofs.Fused.{fusedFrom, shown, judgement-shown, fused-end, fused-bad, fused-fail, fused-wrong, fused-next}
 
 -- a refused step is no step on
-never : (r : Refusal) (s n : State) {A : Type 0} → stepped (outcome.Bad r) s ≡ stepped outcome.Next n → A
-never r s n e =
+no-step : (r : Refusal) (s n : State) {A : Type 0} → stepped (outcome.Bad r) s ≡ stepped outcome.Next n → A
+no-step r s n e =
     let f : outcome.Bad r ≡ outcome.Next = ap (λ (x : Stepped). x .outcome) e in
-    let z : _≡_ {A = ℕ} 0 1 = cc in absurd (omega arith)
+    never (cc)
 
 -- what a step on shows: a test that it passed, and the state that it leads to
 passed : (b : Bool) (r : Refusal) (s m n : State) → cond b (stepped outcome.Next m) (stepped (outcome.Bad r) s) ≡ stepped outcome.Next n
     → (b ≡ true) × (n ≡ m)
 passed true r s m n e = (refl, sym (ap (λ (x : Stepped). x .state) e))
-passed false r s m n e = never r s n e
+passed false r s m n e = no-step r s n e
 
 spared : (b : Bool) (r : Refusal) (s m n : State) → cond b (stepped (outcome.Bad r) s) (stepped outcome.Next m) ≡ stepped outcome.Next n
     → n ≡ m
-spared true r s m n e = never r s n e
+spared true r s m n e = no-step r s n e
 spared false r s m n e = sym (ap (λ (x : Stepped). x .state) e)
 
 -- the table of held sets is that of the owners

@@ -11,6 +11,7 @@ use lib.Bits.{bitAnd, and-le-l}
 use lib.Dec.{eqb, ltb}
 use lib.ListN.{length, getD, set, drop, replicate, length-set, length-replicate, getD-replicate}
 use lib.Seq.{getD-set-same, getD-set-other}
+use Rattle.frame.proofs.Shared.{never}
 use Rattle.frame.specs.Frame.{ObjectInRange, decodeWord}
 use Rattle.frame.proofs.Laws.{decoded-in-range}
 use Rattle.frame.specs.declared.Thread.{Thread}
@@ -43,10 +44,6 @@ use Rattle.pass.specs.Pass.{Ended, judgeFrame, judgeFrom, startJudging, allLock
 use Rattle.verdict.specs.Verdict.{inferredGuards, inferredReply, withTable}
 use Rattle.rules.specs.Choice.{Reducible, Choice, choose, InferredIsSomeChoice, InferredVerdictIsSomeChoice}
 use Rattle.rules.proofs.Bits.{and-holds, and-holds-both, not-empty, full-holds, some-lock}
-
--- two constructors are never equal
-never : {A : Type 0} → _≡_ {A = ℕ} 0 1 → A
-never z = absurd (omega arith)
 
 -- the lock chosen for a variable
 abbrev lockOf : List ℕ → ℕ → Lock

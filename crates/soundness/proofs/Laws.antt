@@ -4,11 +4,11 @@ use mathlib.Core.Path.{_≡_, refl, _∙_}
 use mathlib.Core.Bool.{Bool, true, false}
 use mathlib.Core.List.{List}
 use native.Mathlib.Numerals.{add-one}
-use native.Mathlib.Omega.{arith}
 use lib.ListN.{length, getD, drop, drop-of-length-le}
 use lib.Seq.{drop-cons}
 use lib.Dec.{ltb}
 use borrow.Author.Tests.{le-ltb, ltb-false}
+use Rattle.frame.proofs.Shared.{never}
 use Rattle.frame.specs.Frame.{decodeWord}
 use Rattle.frame.specs.declared.Frame.{Frame}
 use Rattle.frame.specs.declared.Decoded.the-variants as decoded
@@ -52,5 +52,5 @@ sound-fits ws e = go (ltb 4096 (length ws)) refl
     go : (t : Bool) → ltb 4096 (length ws) ≡ t → length ws ≤ 4096
     go true q =
         let f : refused refusal.TooLong 4096 ≡ reply.Sound = rw q at e in
-        let z : _≡_ {A = ℕ} 0 1 = cc in absurd (omega arith)
+        never (cc)
     go false q = ltb-false 4096 (length ws) q

@@ -10,6 +10,7 @@ use lib.ListN.{length, getD, take, drop, length-take, length-drop}
 use lib.Seq.{drop-cons}
 use lib.Dec.{ltb}
 use borrow.Author.Tests.{lt-ltb, le-ltb, ltb-false}
+use Rattle.frame.proofs.Shared.{never}
 use Rattle.text.specs.Text.{Digits, value, none, digitOf, valueOf, digitsValue}
 use Rattle.text.specs.Table.{digitsOfSum}
 
@@ -30,12 +31,12 @@ sum-value v [] r e = cc
 sum-value v (b ∷ bs) r e = go (sum-value (v * 16 + digitOf b) bs r) (ltb 15 (digitOf b)) refl
   where
     go : (digitsValue (v * 16 + digitOf b) bs ≡ value r → sumFrom (v * 16 + digitOf b) bs ≡ r) → (t : Bool) → ltb 15 (digitOf b) ≡ t → sumFrom (v * 16 + valueOf b) bs ≡ r
-    go ih true q = let f : _≡_ {A = Digits} none (value r) = rw q at e in let z : _≡_ {A = ℕ} 0 1 = cc in absurd (omega arith)
+    go ih true q = let f : _≡_ {A = Digits} none (value r) = rw q at e in never (cc)
     go ih false q = rw q (ih (rw q at e))
 
 sum-not : (v : ℕ) (xs : List ℕ) → digitsValue v xs ≡ none → 4294967296 ≤ sumFrom v xs
 unfolding digitsValue sumFrom valueOf
-sum-not v [] e = let z : _≡_ {A = ℕ} 0 1 = cc in absurd (omega arith)
+sum-not v [] e = never (cc)
 sum-not v (b ∷ bs) e = go (sum-not (v * 16 + digitOf b) bs) (ltb 15 (digitOf b)) refl
   where
     go : (digitsValue (v * 16 + digitOf b) bs ≡ none → 4294967296 ≤ sumFrom (v * 16 + digitOf b) bs) → (t : Bool) → ltb 15 (digitOf b) ≡ t → 4294967296 ≤ sumFrom (v * 16 + valueOf b) bs

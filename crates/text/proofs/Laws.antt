@@ -9,6 +9,7 @@ use lib.ListN.{length, getD, take, drop, set, length-append, take-append-drop, d
 use lib.Seq.{drop-cons, drop-drop, set-at, append-snoc, take-at, getD-at}
 use lib.Dec.{ltb, leb, eqb}
 use borrow.Author.Tests.{le-ltb, ltb-false, le-leb, lt-leb, leb-true, eqb-true, eqb-false}
+use Rattle.frame.proofs.Shared.{never}
 use Rattle.frame.specs.declared.Refusal.the-variants as refusal
 use Rattle.text.specs.Text.{Digits, value, none, digitOf, digitsValue, lineWord, lineOf, wordIn, wordAt, refused, ifLine, scanFrom, scanned, reached, wordsTo, roomReply, readReply, readWords, linefeeds}
 use Rattle.text.proofs.Digits.{word-bound}
@@ -56,9 +57,6 @@ unfolding wordsTo
 words-turn s ws i w h e =
     rw (add-one, drop-cons ws i 0 h, set-at (wordsTo s i) (getD ws i 0) (drop (suc i) ws) w i (length-wordsTo s i), e)
     (sym (append-snoc (wordsTo s i) (wordAt s i) (drop (suc i) ws)))
-
-never : {A : Type 0} → _≡_ {A = ℕ} 0 1 → A
-never z = absurd (omega arith)
 
 -- What a line shows of the bytes from `at` on: nine of them, eight digits with the word's value, and an LF.
 pub record Shown (s : List ℕ) (at w : ℕ) : Type 0 where

@@ -1,12 +1,10 @@
 -- Laws of the verdicts: copying a table, and what the inferred verdict answers and leaves by the judgement's reply.
-use Prim.Native.Nat.{ℕ, suc, _+_, _≤_, _<_}
-use mathlib.Core.Path.{_≡_, refl, sym}
+use Prim.Native.Nat.{ℕ, _+_, _≤_, _<_}
+use mathlib.Core.Path.{_≡_, refl}
 use mathlib.Core.List.{List, _++_}
-use native.Mathlib.Omega.{arith}
-use native.Mathlib.Numerals.{add-one}
 use borrow.Author.Tests.{lt-ltb, le-ltb}
-use lib.ListN.{length, getD, set, take, drop}
-use lib.Seq.{drop-cons, set-at, append-snoc, take-suc, length-take-le}
+use lib.ListN.{length, drop}
+use Rattle.frame.proofs.Shared.{never}
 use Rattle.frame.specs.declared.Refused.{Refused}
 use Rattle.frame.specs.declared.Refusal.the-variants as refusal
 use Rattle.reply.specs.Reply.{refused}
@@ -19,13 +17,6 @@ use Rattle.guards.specs.declared.GuardsReply.the-variants as guards
 use Rattle.pass.proofs.Sets.{judgement-fits}
 use Rattle.pass.specs.Pass.{fullSets}
 use Rattle.verdict.specs.Verdict.{declaredReply, inferredGuards, withTable, inferredEnd, inferredReply, inferredSets}
-
--- one more entry copied
-pub copy-turn : (from to : List ℕ) (i : ℕ) → i < length from → i < length to
-    → set (take i from ++ drop i to) i (getD from i 0) ≡ take (i + 1) from ++ drop (i + 1) to
-copy-turn from to i h g =
-    rw (add-one, drop-cons to i 0 g, set-at (take i from) (getD to i 0) (drop (suc i) to) (getD from i 0) i (length-take-le i from (omega arith)), take-suc from i 0 h)
-    (sym (append-snoc (take i from) (getD from i 0) (drop (suc i) to)))
 
 -- a table of 1,024 entries is never refused
 pub own-table : (r : Reply) → r ≡ withTable r 1024
@@ -71,7 +62,7 @@ declared-fits list ws v e = go (guardsRead list .reply) refl
     go (guards.Lines n) f = judgement-fits (guardsRead list .table) fullSets ws v (rw f at e)
     go (guards.Refused x) f =
         let g : reply.Refused x ≡ reply.Judged v = rw f at e in
-        let z : _≡_ {A = ℕ} 0 1 = cc in absurd (omega arith)
+        never (cc)
 
 pub inferred-fits : (ws : List ℕ) (n : ℕ) (v : Verdict) → inferredReply ws n ≡ reply.Judged v → length ws ≤ 4096
 unfolding inferredReply
@@ -81,4 +72,4 @@ inferred-fits ws n v e = go (inferredEnd ws .reply) refl
     go (reply.Judged w) f = judgement-fits inferredGuards fullSets ws w f
     go (reply.Refused x) f =
         let g : reply.Refused x ≡ reply.Judged v = rw f at e in
-        let z : _≡_ {A = ℕ} 0 1 = cc in absurd (omega arith)
+        never (cc)

@@ -6,7 +6,7 @@ use native.Mathlib.Omega.{arith}
 use borrow.Author.Needs.{needs}
 use lib.ListN.{length, length-set, take, drop}
 use lib.Seq.{take-all}
-use Rattle.line.proofs.Laws.{copied-next}
+use Rattle.frame.proofs.Shared.{copied-next}
 use Rattle.line.proofs.put_line.Statement.{statement}
 use Rattle.line.proofs.put_line.Tie as tie
 

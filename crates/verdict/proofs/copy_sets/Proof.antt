@@ -6,7 +6,7 @@ use native.Mathlib.Omega.{arith}
 use borrow.Author.Needs.{needs}
 use lib.ListN.{length, take, drop, length-set}
 use lib.Seq.{take-all}
-use Rattle.verdict.proofs.Laws.{copy-turn}
+use Rattle.frame.proofs.Shared.{copied-next}
 use Rattle.verdict.proofs.copy_sets.Statement.{statement}
 use Rattle.verdict.proofs.copy_sets.Tie as tie
 
@@ -42,7 +42,7 @@ loop-again c =
     let l = c .before .before .loop in
     let a = c .before .before .before .args in
     let h = c .before .loop-test .taken in
-    (omega arith, rw (l .inv .1) (copy-turn (a .from .now) (a .to .now) (l .i) (omega (arith, c .before .before .before .pre .0)) (omega (arith, c .before .before .before .pre .1))), simp length-set (l .inv .2))
+    (omega arith, copied-next (a .from .now) (a .to .now) (l .to) (l .i) (omega (arith, c .before .before .before .pre .0)) (omega (arith, c .before .before .before .pre .1)) (l .inv .1), simp length-set (l .inv .2))
 
 same-length : tie.Need-same-length Inv-loop μ-loop
 same-length c = search needs
