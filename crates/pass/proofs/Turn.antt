@@ -1,6 +1,5 @@
 -- One turn of the loop: the table of held sets follows the owners, and the invariant goes on to the next place.
 use Prim.Native.Nat.{ℕ, _+_, _-_, _^_, _<_, _≤_}
-use mathlib.Core.Bool.{Bool, true, false, cond}
 use mathlib.Core.Path.{_≡_, _∙_, sym, ap, refl, subst}
 use mathlib.Core.List.{List}
 use native.Mathlib.Omega.{arith}
@@ -9,7 +8,6 @@ use borrow.Author.Tests.{eqb-true}
 use lib.Dec.{eqb, leb}
 use lib.ListN.{length, getD, set, drop, replicate, length-set, getD-replicate}
 use lib.Seq.{getD-set-same, getD-set-other}
-use Rattle.frame.proofs.Shared.{never}
 use Rattle.frame.specs.Frame.{ObjectInRange, decodeWord}
 use Rattle.frame.proofs.Laws.{decoded-in-range}
 use Rattle.frame.specs.declared.Frame.{Frame}
@@ -20,6 +18,7 @@ use Rattle.frame.specs.declared.Lock.{Lock}
 use Rattle.frame.specs.declared.Refusal.{Refusal}
 use Rattle.frame.specs.declared.Refusal.the-variants as refusal
 use Rattle.soundness.specs.Soundness.{State, stateOf, Stepped, stepped, stepAction, stepFrame, checkFrom, start}
+use Rattle.soundness.proofs.Laws.{passed, spared}
 use Rattle.soundness.specs.declared.Outcome.the-variants as outcome
 use Rattle.reply.specs.Reply.{refused, reducible}
 use Rattle.reply.specs.declared.Reply.{Reply}
@@ -33,23 +32,6 @@ use Rattle.judge.proofs.Held.{mine, mine-other, held-lt, held-none, held-same, 
 use Rattle.judge.proofs.Laws.{access-fits, access-holds, wrong-keeps}
 use Rattle.pass.specs.Pass.{Ended, ended, judgeFrame, startJudging, judgement, setsOf, afterCheck}
 use Rattle.pass.proofs.Fused.{fusedFrom, shown, judgement-shown, fused-end, fused-bad, fused-fail, fused-wrong, fused-next}
-
--- a refused step is no step on
-no-step : (r : Refusal) (s n : State) {A : Type 0} → stepped (outcome.Bad r) s ≡ stepped outcome.Next n → A
-no-step r s n e =
-    let f : outcome.Bad r ≡ outcome.Next = ap (λ (x : Stepped). x .outcome) e in
-    never (cc)
-
--- what a step on shows: a test that it passed, and the state that it leads to
-passed : (b : Bool) (r : Refusal) (s m n : State) → cond b (stepped outcome.Next m) (stepped (outcome.Bad r) s) ≡ stepped outcome.Next n
-    → (b ≡ true) × (n ≡ m)
-passed true r s m n e = (refl, sym (ap (λ (x : Stepped). x .state) e))
-passed false r s m n e = no-step r s n e
-
-spared : (b : Bool) (r : Refusal) (s m n : State) → cond b (stepped (outcome.Bad r) s) (stepped outcome.Next m) ≡ stepped outcome.Next n
-    → n ≡ m
-spared true r s m n e = no-step r s n e
-spared false r s m n e = sym (ap (λ (x : Stepped). x .state) e)
 
 -- the table of held sets is that of the owners
 pub record Follows (held owners : List ℕ) : Type 0 where
@@ -119,10 +101,10 @@ module _ (guards hs : List ℕ) (t : ℕ) (s n : State) (small : t < 32) (fs : F
   }
   held-step action.Begin r e =
       let p = spared (leb 15 (getD (s .depths) t 0)) refusal.TooDeep s (stateOf (s .owners) (set (s .depths) t (getD (s .depths) t 0 + 1))) n e in
-      record { fits = tt; follows = rw p fs }
+      record { fits = tt; follows = rw (p .1) fs }
   held-step action.End r e =
       let p = spared (eqb (getD (s .depths) t 0) 0) refusal.NoOpenBlock s (stateOf (s .owners) (set (s .depths) t (getD (s .depths) t 0 - 1))) n e in
-      record { fits = tt; follows = rw p fs }
+      record { fits = tt; follows = rw (p .1) fs }
 
 -- The loop's invariant: the pass is that of going on from place i with the state in the arrays.
 pub record Inv (words guards sets₀ sets owners depths hs begins commits : List ℕ) (i : ℕ) : Type 0 where

@@ -11,14 +11,14 @@ use Rattle.frame.specs.declared.Lock.{Lock}
 use Rattle.judge.specs.Rules.{contains}
 
 -- bit m of a number
-abbrev bit : ℕ → ℕ → ℕ
+abbrev pub bit : ℕ → ℕ → ℕ
 bit s m = s / 2 ^ m % 2
 
 -- bit 0 is the remainder, and each next bit is one of the half
-bit-zero : (s : ℕ) → bit s 0 ≡ s % 2
+pub bit-zero : (s : ℕ) → bit s 0 ≡ s % 2
 bit-zero s = ap (λ (n : ℕ). n % 2) (div-one s)
 
-bit-suc : (s m : ℕ) → bit s (suc m) ≡ bit (s / 2) m
+pub bit-suc : (s m : ℕ) → bit s (suc m) ≡ bit (s / 2) m
 bit-suc s m = ap (λ (n : ℕ). n % 2) (ap (λ (n : ℕ). s / n) (pow-succ' 2 m) ∙ sym (div-div-eq-div-mul s 2 (2 ^ m)))
 
 -- a bit of what two numbers share is the lesser of their bits
@@ -51,7 +51,7 @@ and-holds-both a b l p =
     right x y e = omega arith
 
 -- 0 has no bit
-none-in : (m : ℕ) → bit 0 m ≡ 0
+pub none-in : (m : ℕ) → bit 0 m ≡ 0
 none-in zero = refl
 none-in (suc m) = bit-suc 0 m ∙ none-in m
 

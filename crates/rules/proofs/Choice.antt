@@ -31,16 +31,15 @@ use Rattle.reply.specs.declared.Reply.the-variants as reply
 use Rattle.reply.specs.declared.Violation.{Violation}
 use Rattle.reply.specs.declared.Verdict.{Verdict}
 use Rattle.reply.specs.declared.Verdict.the-variants as verdict
-use Rattle.soundness.specs.Soundness.{State, stepFrame, checkReply, start}
+use Rattle.soundness.specs.Soundness.{State, stepFrame, start}
 use Rattle.soundness.specs.declared.Outcome.{Outcome}
 use Rattle.soundness.specs.declared.Outcome.the-variants as outcome
-use Rattle.soundness.specs.declared.CheckReply.{CheckReply}
-use Rattle.soundness.specs.declared.CheckReply.the-variants as check
 use Rattle.judge.specs.Rules.{Phase, outside, before, after, Judging, judgingOf, Judged, judged, phaseAt, contains, withCommit, committed, acquireIn, unprotectedIn, guardedAccess, operationOf, judgeOperation}
 use Rattle.judge.specs.Held.{heldSet}
 use Rattle.judge.specs.declared.Operation.{Operation}
 use Rattle.judge.specs.declared.Operation.the-variants.{Acquire, Release, Protected, Unprotected, Inferred, Begin, End}
 use Rattle.pass.specs.Pass.{Ended, judgeFrame, judgeFrom, startJudging, allLocks, fullSets, judgement}
+use Rattle.pass.proofs.Judgement.{judgement-pass, judgement-sound}
 use Rattle.verdict.specs.Verdict.{inferredGuards, inferredReply, withTable}
 use Rattle.rules.specs.Choice.{Reducible, Choice, choose, InferredIsSomeChoice, InferredVerdictIsSomeChoice}
 use Rattle.rules.proofs.Bits.{and-holds, and-holds-both, not-empty, full-holds, some-lock}
@@ -445,20 +444,6 @@ has-start locks c = record {
   has = λ x h. rw (getD-replicate 1024 x allLocks 0 h) (full-holds (lockOf locks x) (c .small x));
 }
 
--- the judgement of a sound recording is its pass
-judgement-pass : (guards ws : List ℕ) → checkReply ws ≡ check.Sound → judgement guards fullSets ws ≡ judgeFrom guards 0 start (startJudging fullSets) ws
-unfolding judgement
-judgement-pass guards ws e = rw e
-
--- a reducible recording is sound, whatever the guards
-judgement-sound : (guards ws : List ℕ) → Reducible guards ws → checkReply ws ≡ check.Sound
-unfolding judgement
-judgement-sound guards ws r = go (checkReply ws) refl
-  where
-    go : (q : CheckReply) → checkReply ws ≡ q → checkReply ws ≡ check.Sound
-    go check.Sound e = e
-    go (check.Refused b) e = let z : reply.Refused b ≡ reducible = rw e at r in never (cc)
-
 -- "inferred finds a recording reducible exactly if some choice of one lock for each accessed variable does"
 pub inferred-is-some-choice : InferredIsSomeChoice
 unfolding startJudging
@@ -466,8 +451,8 @@ inferred-is-some-choice guards ws long = (to, from)
   where
     to : Reducible guards ws → (locks : List ℕ) × Choice locks × Reducible (choose guards locks) ws
     to r =
-        let sound = judgement-sound guards ws r in
-        let run : judgeFrom guards 0 start (startJudging fullSets) ws .reply ≡ reducible = sym (same-reply (judgement-pass guards ws sound)) ∙ r in
+        let sound = judgement-sound guards fullSets ws verdict.Reducible r in
+        let run : judgeFrom guards 0 start (startJudging fullSets) ws .reply ≡ reducible = sym (same-reply (judgement-pass guards fullSets ws sound)) ∙ r in
         let left = judgeFrom guards 0 start (startJudging fullSets) ws .sets in
         let full : Full left = ends-full guards 0 start (startJudging fullSets) ws run full-start in
         let size : length left ≡ 1024 = full .long in
@@ -476,16 +461,16 @@ inferred-is-some-choice guards ws long = (to, from)
         let has : Has (k .0) left = record { long = size; has = λ x h. k .3 x (omega arith) } in (
           k .0,
           c,
-          same-reply (judgement-pass (choose guards (k .0)) ws sound)
+          same-reply (judgement-pass (choose guards (k .0)) fullSets ws sound)
               ∙ infers-pass guards (k .0) long c fullSets 0 start (startJudging fullSets) ws run has .1,
         )
 
     from : (locks : List ℕ) × Choice locks × Reducible (choose guards locks) ws → Reducible guards ws
     from (locks, c, r) =
-        let sound = judgement-sound (choose guards locks) ws r in
+        let sound = judgement-sound (choose guards locks) fullSets ws verdict.Reducible r in
         let run : judgeFrom (choose guards locks) 0 start (startJudging fullSets) ws .reply ≡ reducible =
-        sym (same-reply (judgement-pass (choose guards locks) ws sound)) ∙ r in
-        same-reply (judgement-pass guards ws sound)
+        sym (same-reply (judgement-pass (choose guards locks) fullSets ws sound)) ∙ r in
+        same-reply (judgement-pass guards fullSets ws sound)
         ∙ allows-pass guards locks long c fullSets 0 start (startJudging fullSets) ws run (has-start locks c)
 
 -- the guards of the inferred verdict are 1,024, and with a choice they are the chosen locks

@@ -1,7 +1,7 @@
 -- Laws of soundness: how a pass goes on from place i, by what the frame there does, and what a sound recording is.
 use Prim.Native.Nat.{ℕ, _+_, _≤_, _<_}
-use mathlib.Core.Path.{_≡_, refl, _∙_}
-use mathlib.Core.Bool.{Bool, true, false}
+use mathlib.Core.Path.{_≡_, refl, sym, ap, _∙_}
+use mathlib.Core.Bool.{Bool, true, false, cond}
 use mathlib.Core.List.{List}
 use native.Mathlib.Numerals.{add-one}
 use lib.ListN.{length, getD, drop, drop-of-length-le}
@@ -16,7 +16,7 @@ use Rattle.frame.specs.declared.Refusal.{Refusal}
 use Rattle.frame.specs.declared.Refusal.the-variants as refusal
 use Rattle.soundness.specs.declared.CheckReply.the-variants as reply
 use Rattle.soundness.specs.declared.Outcome.the-variants as outcome
-use Rattle.soundness.specs.Soundness.{State, stepped, stepFrame, stepDecoded, onOutcome, checked, refused, checkFrom, checkReply, start}
+use Rattle.soundness.specs.Soundness.{State, Stepped, stepped, stepFrame, stepDecoded, onOutcome, checked, refused, checkFrom, checkReply, start}
 
 pub check-short : (ws : List ℕ) → length ws ≤ 4096 → checkReply ws ≡ checkFrom 0 start ws .reply
 check-short ws h = rw (le-ltb 4096 (length ws) h)
@@ -54,3 +54,18 @@ sound-fits ws e = go (ltb 4096 (length ws)) refl
         let f : refused refusal.TooLong 4096 ≡ reply.Sound = rw q at e in
         never (cc)
     go false q = ltb-false 4096 (length ws) q
+
+-- a refused step is no step on
+no-step : {A : Type 0} (r : Refusal) (s n : State) → stepped (outcome.Bad r) s ≡ stepped outcome.Next n → A
+no-step r s n e = let f : outcome.Bad r ≡ outcome.Next = ap (λ (x : Stepped). x .outcome) e in never (cc)
+
+-- what a step on shows where a test lets it pass or holds it up: the test's answer, and the state that it leads to
+pub passed : (b : Bool) (r : Refusal) (s m n : State) → cond b (stepped outcome.Next m) (stepped (outcome.Bad r) s) ≡ stepped outcome.Next n
+    → (b ≡ true) × (n ≡ m)
+passed true r s m n e = (refl, sym (ap (λ (x : Stepped). x .state) e))
+passed false r s m n e = no-step r s n e
+
+pub spared : (b : Bool) (r : Refusal) (s m n : State) → cond b (stepped (outcome.Bad r) s) (stepped outcome.Next m) ≡ stepped outcome.Next n
+    → (b ≡ false) × (n ≡ m)
+spared true r s m n e = no-step r s n e
+spared false r s m n e = (refl, sym (ap (λ (x : Stepped). x .state) e))

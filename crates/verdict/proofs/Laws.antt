@@ -14,7 +14,7 @@ use Rattle.reply.specs.declared.Verdict.{Verdict}
 use Rattle.guards.specs.Guards.{guardsRead}
 use Rattle.guards.specs.declared.GuardsReply.{GuardsReply}
 use Rattle.guards.specs.declared.GuardsReply.the-variants as guards
-use Rattle.pass.proofs.Sets.{judgement-fits}
+use Rattle.pass.proofs.Judgement.{judgement-fits}
 use Rattle.pass.specs.Pass.{fullSets}
 use Rattle.verdict.specs.Verdict.{declaredReply, inferredGuards, withTable, inferredEnd, inferredReply, inferredSets}
 

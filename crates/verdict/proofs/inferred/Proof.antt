@@ -1,7 +1,7 @@
 use mathlib.Core.Path.{sym, _∙_}
 use borrow.Author.Needs.{needs}
 use lib.ListN.{length}
-use Rattle.pass.proofs.Sets.{judgement-length}
+use Rattle.pass.proofs.Judgement.{judgement-length}
 use Rattle.pass.specs.Pass.{fullSets}
 use Rattle.verdict.specs.Verdict.{inferredGuards}
 use Rattle.verdict.proofs.Laws.{refused-reply, refused-sets, short-reply, short-sets, judged-reply, judged-sets}

@@ -1,4 +1,4 @@
--- The judgement keeps the length of the table of candidate sets, and a recording that gets a verdict is short.
+-- Laws of the judgement: it keeps the length of the table of candidate sets, and a recording that gets a verdict is sound.
 use Prim.Native.Nat.{ℕ, _+_, _≤_}
 use mathlib.Core.Path.{_≡_, refl, _∙_}
 use mathlib.Core.Bool.{Bool, true, false, cond}
@@ -80,13 +80,20 @@ pub judgement-length : (guards sets ws : List ℕ) → length (judgement guards 
 unfolding judgement startJudging
 judgement-length guards sets ws = checking (checkReply ws) sets _ (judge-length guards 0 start (startJudging sets) ws)
 
--- a recording that gets a verdict has at most 4,096 frames
-pub judgement-fits : (guards sets ws : List ℕ) (v : Verdict) → judgement guards sets ws .reply ≡ reply.Judged v → length ws ≤ 4096
+-- the judgement of a sound recording is its pass
+pub judgement-pass : (guards sets ws : List ℕ) → checkReply ws ≡ check.Sound → judgement guards sets ws ≡ judgeFrom guards 0 start (startJudging sets) ws
 unfolding judgement
-judgement-fits guards sets ws v e = go (checkReply ws) refl
+judgement-pass guards sets ws e = rw e
+
+-- a recording that gets a verdict is sound
+pub judgement-sound : (guards sets ws : List ℕ) (v : Verdict) → judgement guards sets ws .reply ≡ reply.Judged v → checkReply ws ≡ check.Sound
+unfolding judgement
+judgement-sound guards sets ws v e = go (checkReply ws) refl
   where
-    go : (q : CheckReply) → checkReply ws ≡ q → length ws ≤ 4096
-    go check.Sound f = sound-fits ws f
-    go (check.Refused r) f =
-        let g : reply.Refused r ≡ reply.Judged v = rw f at e in
-        never (cc)
+    go : (q : CheckReply) → checkReply ws ≡ q → checkReply ws ≡ check.Sound
+    go check.Sound f = f
+    go (check.Refused r) f = let g : reply.Refused r ≡ reply.Judged v = rw f at e in never (cc)
+
+-- and has at most 4,096 frames
+pub judgement-fits : (guards sets ws : List ℕ) (v : Verdict) → judgement guards sets ws .reply ≡ reply.Judged v → length ws ≤ 4096
+judgement-fits guards sets ws v e = sound-fits ws (judgement-sound guards sets ws v e)
