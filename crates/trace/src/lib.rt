@@ -13,6 +13,11 @@ ghost use Rattle.guards.specs.Guards.{guardsRead};
 ghost use Rattle.verdict.specs.Verdict.{declaredReply, inferredReply};
 ghost use Rattle.trace.specs.Trace.{packed, readAnswer, guardsAnswer, replyKind, kindAnswer, lineAfter, textJudged, setsAfter};
 
+// The bytes of a verdict line, and the kind where a line buffer has fewer: 80 hexadecimal plus 17.
+const LINE: usize = 33;
+
+const SHORT: u8 = 145;
+
 // The reply to a text, and its number of frames where it is read.
 pub struct TextJudged {
     pub reply: Reply,
@@ -68,8 +73,8 @@ pub extern "C" fn trace_check(text: &[u8], line: &mut [u8]) -> u8
     ensures kind { λ k. ⌜ k ≡ kindAnswer (textJudged (now (text .entry)) .reply) (length (now (line .entry))) ⌝ }
     ensures contents { λ k. ⌜ now (line .exit) ≡ lineAfter (textJudged (now (text .entry)) .reply) (textJudged (now (text .entry)) .frames) (now (line .entry)) ⌝ }
 {
-    if line.len() < 33 {
-        return 145;
+    if line.len() < LINE {
+        return SHORT;
     }
     let j = judge_text(text);
     let r = j.reply;
@@ -108,8 +113,8 @@ pub extern "C" fn trace_declared(list: &[u8], words: &[u32], line: &mut [u8]) ->
     ensures kind { λ k. ⌜ k ≡ kindAnswer (declaredReply (now (list .entry)) (now (words .entry))) (length (now (line .entry))) ⌝ }
     ensures contents { λ k. ⌜ now (line .exit) ≡ lineAfter (declaredReply (now (list .entry)) (now (words .entry))) (length (now (words .entry))) (now (line .entry)) ⌝ }
 {
-    if line.len() < 33 {
-        return 145;
+    if line.len() < LINE {
+        return SHORT;
     }
     let r = verdict::declared(list, words);
     answer(line, r, (words.len() % 4294967296) as u32)
@@ -122,8 +127,8 @@ pub extern "C" fn trace_inferred(words: &[u32], sets: &mut [u64], line: &mut [u8
     ensures sets { λ k. ⌜ now (sets .exit) ≡ setsAfter (now (words .entry)) (now (sets .entry)) (length (now (line .entry))) ⌝ }
     ensures contents { λ k. ⌜ now (line .exit) ≡ lineAfter (inferredReply (now (words .entry)) (length (now (sets .entry)))) (length (now (words .entry))) (now (line .entry)) ⌝ }
 {
-    if line.len() < 33 {
-        return 145;
+    if line.len() < LINE {
+        return SHORT;
     }
     let r = verdict::inferred(words, sets);
     answer(line, r, (words.len() % 4294967296) as u32)
