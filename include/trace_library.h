@@ -1,12 +1,13 @@
 /*
- * The parts of the trace check: text, guard lists, and verdicts on words.
+ * The parts of the trace check: text, guard lists, and verdicts, equality and serial orders on
+ * words.
  *
  * Every pointer must be valid for its length (counted in elements), aligned for its element type
  * and not null even if the length is 0. A buffer that is written must not overlap another.
  * const arguments are only read.
  *
  * A uint64_t reply holds the refusal's number in the high 32 bits, 0 if there is none. The low
- * 32 bits hold the refusal's place, or without one the count answered.
+ * 32 bits hold the refusal's place, or without one the count answered. trace_equal adds to this.
  */
 #ifndef TRACE_LIBRARY_H
 #define TRACE_LIBRARY_H
@@ -57,6 +58,36 @@ uint8_t trace_declared(const uint8_t *list, size_t list_len, const uint32_t *wor
  */
 uint8_t trace_inferred(const uint32_t *words, size_t words_len, uint64_t *sets, size_t sets_len,
                        uint8_t *line, size_t line_len);
+
+/*
+ * Whether exchanges of independent neighbours turn the left recording into the right one.
+ * Without a refusal the reply is 1 if they do and 0 if not; recordings of different length are
+ * not equal.
+ * Refusals in order: left_len is above 4,096 (2, place 4096) and the first frame of left that
+ * fails (4 to 10, place: frame); then the same of right, with 256 added to the number. Both are
+ * checked whole, whatever their lengths.
+ */
+uint64_t trace_equal(const uint32_t *left, size_t left_len, const uint32_t *right,
+                     size_t right_len);
+
+/*
+ * The serial order with declared guards: the units by the place of their commit, each with its
+ * frames in recorded order. A variable that the list does not name is unprotected.
+ * Count: words_len; that many words of out are written, later words keep their contents.
+ * Refusals in order: 1, 11, 12 of the list (place: line); 2 words_len is above 4,096 (place
+ * 4096); 4 to 10 of the first frame that fails (place: frame); 13 not reducible (place: the
+ * violating frame); 14 a block still open at the end (place: the smallest of an open outermost
+ * begin); 15 out_len is below words_len (place: words_len). A refusal writes nothing.
+ */
+uint64_t trace_serial_declared(const uint8_t *list, size_t list_len, const uint32_t *words,
+                               size_t words_len, uint32_t *out, size_t out_len);
+
+/*
+ * The serial order with inferred guards: count, refusals and out as for trace_serial_declared,
+ * without 1, 11 and 12.
+ */
+uint64_t trace_serial_inferred(const uint32_t *words, size_t words_len, uint32_t *out,
+                               size_t out_len);
 
 #ifdef __cplusplus
 }

@@ -154,6 +154,45 @@ static int infers_to(const uint32_t *words, size_t words_len, size_t sets_len, s
     return good;
 }
 
+/* 1 equal, 0 not, or a refusal. */
+static int equals_to(const uint32_t *left, size_t left_len, const uint32_t *right,
+                     size_t right_len, uint64_t reply)
+{
+    uint32_t *lent_left = copy_of(left, left_len * sizeof *left);
+    uint32_t *lent_right = copy_of(right, right_len * sizeof *right);
+    int good = trace_equal(lent_left, left_len, lent_right, right_len) == reply &&
+               memcmp(lent_left, left, left_len * sizeof *left) == 0 &&
+               memcmp(lent_right, right, right_len * sizeof *right) == 0;
+    free(lent_right);
+    free(lent_left);
+    return good;
+}
+
+/*
+ * The serial order; no list: guards are inferred. On success expected holds the words;
+ * otherwise all words stay untouched.
+ */
+static int orders_to(const char *list, const uint32_t *words, size_t words_len, size_t out_len,
+                     uint64_t reply, const uint32_t *expected)
+{
+    size_t list_len = list == NULL ? 0 : strlen(list);
+    size_t written = reply >> 32 ? 0 : (size_t)reply;
+    uint8_t *lent_list = copy_of(list, list_len);
+    uint32_t *lent_words = copy_of(words, words_len * sizeof *words);
+    uint32_t *out = untouched(out_len * sizeof *out);
+    uint64_t given = list == NULL ? trace_serial_inferred(lent_words, words_len, out, out_len)
+                                  : trace_serial_declared(lent_list, list_len, lent_words,
+                                                          words_len, out, out_len);
+    int good = given == reply && memcmp(lent_words, words, words_len * sizeof *words) == 0;
+    if (written > 0)
+        good = good && memcmp(out, expected, written * sizeof *out) == 0;
+    good = good && is_untouched(out + written, (out_len - written) * sizeof *out);
+    free(out);
+    free(lent_words);
+    free(lent_list);
+    return good;
+}
+
 static const char reducible_0[] = "00000000FFFFFFFF0000000000000000";
 static const char text_a[] = "05010000\n01010000\n03010000\n02010000\n"
                              "01010000\n03010001\n02010000\n06010000\n";
@@ -163,6 +202,15 @@ static const uint32_t words_a[] = {0x05010000, 0x01010000, 0x03010000, 0x0201000
 static const uint32_t words_e[] = {0x05000000, 0x03000005, 0x03000005};
 static const uint32_t words_j[] = {0x01000003, 0x01010003};
 static const uint32_t access_5[] = {0x03000005};
+static const uint32_t words_c[] = {0x05000000, 0x05010000, 0x01000000, 0x04000000, 0x02000000,
+                                   0x01010000, 0x04010000, 0x06000000, 0x02010000, 0x06010000};
+static const uint32_t serial_c[] = {0x05000000, 0x01000000, 0x04000000, 0x02000000, 0x06000000,
+                                    0x05010000, 0x01010000, 0x04010000, 0x02010000, 0x06010000};
+static const uint32_t words_h[] = {0x03000000, 0x03010001};
+static const uint32_t reverse_h[] = {0x03010001, 0x03000000};
+static const uint32_t words_i[] = {0x03000000, 0x03010000};
+static const uint32_t reverse_i[] = {0x03010000, 0x03000000};
+static const uint32_t begin_alone[] = {0x05000000};
 /* Variable 5 under locks {1,2}, then {2,3}, then {3}. */
 static const uint32_t words_shared[] = {0x01000001, 0x01000002, 0x03000005, 0x02000001,
                                         0x01000003, 0x04000005, 0x02000002, 0x03000005};
@@ -192,6 +240,14 @@ static void test_longest(void)
     CHECK(declares_to("", words, MOST + 1, 33, "82100000FFFFFFFF0000000000000000"));
     CHECK(infers_to(words, MOST, 1024, 33, "00100000FFFFFFFF0000000000000000", 0, UINT64_MAX));
     CHECK(infers_to(words, MOST + 1, 1024, 33, "82100000FFFFFFFF0000000000000000", 0, 0));
+    CHECK(equals_to(words, MOST, words, MOST, 1));
+    CHECK(equals_to(words, MOST, words, MOST - 2, 0));
+    CHECK(equals_to(words, MOST + 1, words, MOST, REFUSAL(2, 4096)));
+    CHECK(equals_to(words, MOST, words, MOST + 1, REFUSAL(256 + 2, 4096)));
+    CHECK(orders_to(NULL, words, MOST, MOST, MOST, words));
+    CHECK(orders_to("", words, MOST, MOST + 1, MOST, words));
+    CHECK(orders_to(NULL, words, MOST, MOST - 1, REFUSAL(15, 4096), NULL));
+    CHECK(orders_to("", words, MOST + 1, MOST + 1, REFUSAL(2, 4096), NULL));
     free(text);
     free(words);
 }
@@ -259,6 +315,35 @@ int main(void)
     CHECK(infers_to(words_a, 0, 0, 33, "90040000FFFFFFFF0000000000000000", 0, 0));
     CHECK(infers_to(words_a, COUNT(words_a), 1024, 32, NULL, 0, 0));
     CHECK(infers_to(words_j, COUNT(words_j), 1023, 0, NULL, 0, 0));
+
+    /* trace_equal */
+    CHECK(equals_to(words_h, 2, reverse_h, 2, 1));
+    CHECK(equals_to(words_i, 2, reverse_i, 2, 0));
+    CHECK(equals_to(words_i, 2, words_i, 2, 1));
+    CHECK(equals_to(words_c, COUNT(words_c), serial_c, COUNT(serial_c), 1));
+    CHECK(equals_to(words_c, COUNT(words_c), serial_c, COUNT(serial_c) - 1, 0));
+    CHECK(equals_to(words_c, 0, serial_c, 0, 1));
+    CHECK(equals_to(words_j, COUNT(words_j), words_c, 0, REFUSAL(7, 1)));
+    CHECK(equals_to(words_c, 0, words_j, COUNT(words_j), REFUSAL(256 + 7, 1)));
+    CHECK(equals_to(words_j, COUNT(words_j), words_j, COUNT(words_j), REFUSAL(7, 1)));
+
+    /* trace_serial_inferred and trace_serial_declared */
+    CHECK(orders_to(NULL, words_c, COUNT(words_c), COUNT(words_c), COUNT(words_c), serial_c));
+    CHECK(orders_to(NULL, words_c, COUNT(words_c), COUNT(words_c) + 3, COUNT(words_c), serial_c));
+    CHECK(orders_to(NULL, words_c, COUNT(words_c), COUNT(words_c) - 1, REFUSAL(15, 10), NULL));
+    CHECK(orders_to(NULL, words_c, COUNT(words_c), 0, REFUSAL(15, 10), NULL));
+    CHECK(orders_to("00000000\n", words_c, COUNT(words_c), 10, 10, serial_c));
+    CHECK(orders_to("00000000\n", words_c, COUNT(words_c), 9, REFUSAL(15, 10), NULL));
+    CHECK(orders_to("00000000", words_c, COUNT(words_c), 10, REFUSAL(1, 0), NULL));
+    CHECK(orders_to("04000000\n", words_j, COUNT(words_j), 10, REFUSAL(11, 0), NULL));
+    CHECK(orders_to("00050002\n00050002\n", words_j, 2, 2, REFUSAL(12, 1), NULL));
+    CHECK(orders_to("", words_j, COUNT(words_j), 1, REFUSAL(7, 1), NULL));
+    CHECK(orders_to("", words_e, COUNT(words_e), 3, REFUSAL(13, 2), NULL));
+    CHECK(orders_to(NULL, words_a, COUNT(words_a), 8, REFUSAL(13, 4), NULL));
+    CHECK(orders_to(NULL, begin_alone, 1, 0, REFUSAL(14, 0), NULL));
+    CHECK(orders_to("", begin_alone, 1, 1, REFUSAL(14, 0), NULL));
+    CHECK(orders_to(NULL, words_c, 0, 0, 0, NULL));
+    CHECK(orders_to("", words_c, 0, 2, 0, NULL));
 
     test_longest();
     if (failures > 0)

@@ -39,6 +39,9 @@ pub enum Refusal {
     NoOpenBlock,
     GuardRange,
     GuardRepeated,
+    Irreducible,
+    OpenBlock,
+    OutputBuffer,
     SetTable,
     LineBuffer,
 }
@@ -163,6 +166,9 @@ pub fn refusal_number(r: Refusal) -> u8
         Refusal::NoOpenBlock => 10,
         Refusal::GuardRange => 11,
         Refusal::GuardRepeated => 12,
+        Refusal::Irreducible => 13,
+        Refusal::OpenBlock => 14,
+        Refusal::OutputBuffer => 15,
         Refusal::SetTable => 16,
         Refusal::LineBuffer => 17,
     }

@@ -49,7 +49,7 @@ abbrev lockOf : List ℕ → ℕ → Lock
 lockOf locks x = record { 0 = getD locks x 0 }
 
 -- an operation under the chosen locks
-abbrev chosen : List ℕ → Operation → Operation
+abbrev pub chosen : List ℕ → Operation → Operation
 chosen locks (Acquire l) = Acquire l
 chosen locks (Release l) = Release l
 chosen locks (Protected m) = Protected m
@@ -78,7 +78,7 @@ choose-all (suc n) [] e = absurd (omega arith)
 choose-all (suc n) (l ∷ locks) e = ap (λ (r : List ℕ). l ∷ r) (choose-all n locks (omega arith))
 
 -- an access under a guard that is replaced where it is inferred is the access under the chosen lock
-access-chosen : (locks : List ℕ) (v : Variable) (g : ℕ) → getD locks (v .0) 0 < 64
+pub access-chosen : (locks : List ℕ) (v : Variable) (g : ℕ) → getD locks (v .0) 0 < 64
     → guardedAccess (guardOf (cond (ltb 64 g) (getD locks (v .0) 0) g)) v ≡ chosen locks (guardedAccess (guardOf g) v)
 access-chosen locks v g s = go (ltb 64 g) refl (ltb g 64) refl (eqb g 64) refl
   where
@@ -309,21 +309,21 @@ same-reply : {x y : Ended} → x ≡ y → x .reply ≡ y .reply
 same-reply e = ap (λ (x : Ended). x .reply) e
 
 -- A frame after which a pass goes on.
-record Goes (guards : List ℕ) (i : ℕ) (s : State) (j : Judging) (w : ℕ) : Type 0 where
-  frame : Frame
-  is : decodeWord w ≡ decoded.Frame frame
-  sound : stepFrame frame s .outcome ≡ outcome.Next
-  right : judgeFrame guards i frame s j .verdict ≡ verdict.Reducible
+pub record Goes (guards : List ℕ) (i : ℕ) (s : State) (j : Judging) (w : ℕ) : Type 0 where
+  pub frame : Frame
+  pub is : decodeWord w ≡ decoded.Frame frame
+  pub sound : stepFrame frame s .outcome ≡ outcome.Next
+  pub right : judgeFrame guards i frame s j .verdict ≡ verdict.Reducible
 
 module _ (guards : List ℕ) (i : ℕ) (s : State) (j : Judging) (w : ℕ) (ws : List ℕ) where
   -- the pass goes on from the state that the frame leads to
-  goes-on : (g : Goes guards i s j w)
+  pub goes-on : (g : Goes guards i s j w)
       → judgeFrom guards i s j (w ∷ ws) ≡ judgeFrom guards (i + 1) (stepFrame (g .frame) s .state) (judgeFrame guards i (g .frame) s j .judging) ws
   unfolding judgeFrom
   goes-on g = rw (g .is, g .sound, g .right)
 
   -- a reducible pass goes on after its first frame
-  goes : judgeFrom guards i s j (w ∷ ws) .reply ≡ reducible → Goes guards i s j w
+  pub goes : judgeFrom guards i s j (w ∷ ws) .reply ≡ reducible → Goes guards i s j w
   unfolding judgeFrom
   goes r = decode-case (decodeWord w) refl
     where

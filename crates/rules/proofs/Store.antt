@@ -56,7 +56,7 @@ is-one : (b : Bool) → eqb (cond b 1 0) 1 ≡ b
 is-one true = refl
 is-one false = refl
 
-held-is : (t : ℕ) (os : List ℕ) (m : Lock) → contains (heldSet t os) m ≡ eqb (getD os (m .0) 0) (t + 1)
+pub held-is : (t : ℕ) (os : List ℕ) (m : Lock) → contains (heldSet t os) m ≡ eqb (getD os (m .0) 0) (t + 1)
 held-is t os m = ap (λ (n : ℕ). eqb n 1) (held-bit t os (m .0)) ∙ is-one (eqb (getD os (m .0) 0) (t + 1))
 
 -- The stage of a thread at depth d with commit c, as in `phaseOf`, and the store of a state.
@@ -73,7 +73,7 @@ pub record Sized (depths : List ℕ) (j : Judging) : Type 0 where
   pub sets-long : length (j .sets) ≡ 1024
 
 -- an entry after a store to the list
-getD-set : (l : List ℕ) (i v u : ℕ) → i < length l → getD (set l i v) u 0 ≡ cond (eqb u i) v (getD l u 0)
+pub getD-set : (l : List ℕ) (i v u : ℕ) → i < length l → getD (set l i v) u 0 ≡ cond (eqb u i) v (getD l u 0)
 getD-set l i v u h = go (eqb u i) refl
   where
     go : (b : Bool) → eqb u i ≡ b → getD (set l i v) u 0 ≡ cond (eqb u i) v (getD l u 0)

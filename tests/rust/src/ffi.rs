@@ -22,6 +22,21 @@ extern "C" {
         line: *mut u8,
         line_len: usize,
     ) -> u8;
+    fn trace_equal(left: *const u32, left_len: usize, right: *const u32, right_len: usize) -> u64;
+    fn trace_serial_declared(
+        list: *const u8,
+        list_len: usize,
+        words: *const u32,
+        words_len: usize,
+        out: *mut u32,
+        out_len: usize,
+    ) -> u64;
+    fn trace_serial_inferred(
+        words: *const u32,
+        words_len: usize,
+        out: *mut u32,
+        out_len: usize,
+    ) -> u64;
 }
 
 // SAFETY of each call: every pointer and length come from one slice, which is lent for the
@@ -63,4 +78,25 @@ pub fn inferred(words: &[u32], sets: &mut [u64], line: &mut [u8]) -> u8 {
             line.len(),
         )
     }
+}
+
+pub fn equal(left: &[u32], right: &[u32]) -> u64 {
+    unsafe { trace_equal(left.as_ptr(), left.len(), right.as_ptr(), right.len()) }
+}
+
+pub fn serial_declared(list: &[u8], words: &[u32], out: &mut [u32]) -> u64 {
+    unsafe {
+        trace_serial_declared(
+            list.as_ptr(),
+            list.len(),
+            words.as_ptr(),
+            words.len(),
+            out.as_mut_ptr(),
+            out.len(),
+        )
+    }
+}
+
+pub fn serial_inferred(words: &[u32], out: &mut [u32]) -> u64 {
+    unsafe { trace_serial_inferred(words.as_ptr(), words.len(), out.as_mut_ptr(), out.len()) }
 }

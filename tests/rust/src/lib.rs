@@ -1,6 +1,6 @@
 //! Reference checker, written from document 01 alone; clarity comes before speed.
 
-use std::collections::{BTreeMap, BTreeSet};
+use std::collections::{BTreeMap, BTreeSet, VecDeque};
 
 pub mod plain;
 pub mod random;
@@ -13,6 +13,8 @@ const MOST_LOCK: u16 = 63;
 const MOST_VARIABLE: u16 = 1023;
 const MOST_DEPTH: u32 = 15;
 const ABSENT: usize = 0xFFFF;
+/// Added to the number of a refusal of the right recording.
+const RIGHT_SIDE: u64 = 256;
 
 #[derive(Clone, Copy, Debug, PartialEq, Eq)]
 pub struct Refusal {
@@ -308,6 +310,125 @@ pub fn inferred_verdict(frames: &[Frame]) -> (Verdict, [u64; VARIABLES]) {
     (verdict, sets)
 }
 
+// Equality.
+
+#[derive(Clone, Copy, PartialEq, Eq, PartialOrd, Ord)]
+enum Item {
+    Thread(u8),
+    Lock(u16),
+    Variable(u16),
+}
+
+/// The thread of a frame, and the lock or variable that it touches.
+fn items(frame: Frame) -> impl Iterator<Item = Item> {
+    let touched = match frame.action {
+        Action::Acquire(lock) | Action::Release(lock) => Some(Item::Lock(lock)),
+        Action::Access(variable) => Some(Item::Variable(variable)),
+        Action::Begin | Action::End => None,
+    };
+    [Some(Item::Thread(frame.thread)), touched]
+        .into_iter()
+        .flatten()
+}
+
+/// The frames of each item in recorded order. Two recordings are equal exactly if these agree:
+/// frames are dependent exactly if they have an item in common.
+fn projections(words: &[u32], frames: &[Frame]) -> BTreeMap<Item, Vec<u32>> {
+    let mut projections: BTreeMap<Item, Vec<u32>> = BTreeMap::new();
+    for (&word, &frame) in words.iter().zip(frames) {
+        for item in items(frame) {
+            projections.entry(item).or_default().push(word);
+        }
+    }
+    projections
+}
+
+/// Words that are no frame are independent of none.
+pub fn independent(left: u32, right: u32) -> bool {
+    let (Ok(left), Ok(right)) = (frame_of_word(left), frame_of_word(right)) else {
+        return false;
+    };
+    left.thread != right.thread
+        && match (left.action, right.action) {
+            (
+                Action::Acquire(left) | Action::Release(left),
+                Action::Acquire(right) | Action::Release(right),
+            ) => left != right,
+            (Action::Access(left), Action::Access(right)) => left != right,
+            _ => true,
+        }
+}
+
+/// Equality by its definition: a search over exchanges, for few frames.
+pub fn brute_equal(left: &[u32], right: &[u32]) -> bool {
+    assert!(left.len() <= 8, "too many frames to search");
+    let mut seen = BTreeSet::from([left.to_vec()]);
+    let mut open = VecDeque::from([left.to_vec()]);
+    while let Some(words) = open.pop_front() {
+        if words == right {
+            return true;
+        }
+        for place in 1..words.len() {
+            if independent(words[place - 1], words[place]) {
+                let mut exchanged = words.clone();
+                exchanged.swap(place - 1, place);
+                if seen.insert(exchanged.clone()) {
+                    open.push_back(exchanged);
+                }
+            }
+        }
+    }
+    false
+}
+
+// Serial order.
+
+struct Unit {
+    commit: Option<usize>,
+    places: Vec<usize>,
+}
+
+/// The places of a reducible recording in serial order. Refusal 14.
+fn serial_places(
+    frames: &[Frame],
+    unprotected: impl Fn(u16) -> bool,
+) -> Result<Vec<usize>, Refusal> {
+    let mut units = Vec::new();
+    // Each thread's open block and its depth.
+    let mut blocks: BTreeMap<u8, (Unit, u32)> = BTreeMap::new();
+    for (place, frame) in frames.iter().enumerate() {
+        let (mut unit, depth) = blocks.remove(&frame.thread).unwrap_or((
+            Unit {
+                commit: None,
+                places: Vec::new(),
+            },
+            0,
+        ));
+        unit.places.push(place);
+        let (depth, commits) = match frame.action {
+            Action::Begin => (depth + 1, false),
+            Action::End => (depth - 1, false),
+            Action::Acquire(_) => (depth, false),
+            Action::Release(_) => (depth, true),
+            Action::Access(variable) => (depth, unprotected(variable)),
+        };
+        // The end of a block and a single frame commit what did not commit before.
+        if commits || depth == 0 {
+            unit.commit.get_or_insert(place);
+        }
+        if depth == 0 {
+            units.push(unit);
+        } else {
+            blocks.insert(frame.thread, (unit, depth));
+        }
+    }
+    if let Some(begin) = blocks.values().map(|(unit, _)| unit.places[0]).min() {
+        return refuse(14, begin);
+    }
+    units.sort_by_key(|unit| unit.commit);
+    Ok(units.into_iter().flat_map(|unit| unit.places).collect())
+}
+
 /// The kind as a number and the verdict line.
 pub fn verdict_line(reply: Result<Verdict, Refusal>) -> (u8, String) {
     let fields = |kind, frame| Violation {
@@ -393,4 +514,55 @@ pub fn inferred(words: &[u32], sets: &mut [u64], line: &mut [u8]) -> u8 {
         sets[..VARIABLES].copy_from_slice(&final_sets);
         Ok(verdict)
     })
+}
+
+pub fn equal(left: &[u32], right: &[u32]) -> u64 {
+    let left_frames = match check_recording(left) {
+        Ok(frames) => frames,
+        Err(refusal) => return packed(Err(refusal)),
+    };
+    let right_frames = match check_recording(right) {
+        Ok(frames) => frames,
+        Err(refusal) => return packed(Err(refusal)) + (RIGHT_SIDE << 32),
+    };
+    u64::from(projections(left, &left_frames) == projections(right, &right_frames))
+}
+
+/// Writes a sound recording's serial order. Refusals 13 to 15.
+fn write_serial(
+    words: &[u32],
+    frames: &[Frame],
+    verdict: Verdict,
+    unprotected: impl Fn(u16) -> bool,
+    out: &mut [u32],
+) -> Result<usize, Refusal> {
+    if let Verdict::Violation(violation) = verdict {
+        return refuse(13, violation.frame);
+    }
+    let places = serial_places(frames, unprotected)?;
+    if out.len() < words.len() {
+        return refuse(15, words.len());
+    }
+    for (to, place) in out.iter_mut().zip(places) {
+        *to = words[place];
+    }
+    Ok(words.len())
+}
+
+pub fn serial_declared(list: &[u8], words: &[u32], out: &mut [u32]) -> u64 {
+    let mut written = || {
+        let guards = read_guards(list)?;
+        let frames = check_recording(words)?;
+        let verdict = declared_verdict(&frames, &guards);
+        let unprotected = |variable| !guards.contains_key(&variable);
+        write_serial(words, &frames, verdict, unprotected, out)
+    };
+    packed(written())
+}
+
+pub fn serial_inferred(words: &[u32], out: &mut [u32]) -> u64 {
+    packed(check_recording(words).and_then(|frames| {
+        let verdict = inferred_verdict(&frames).0;
+        write_serial(words, &frames, verdict, |_| false, out)
+    }))
 }

@@ -1,7 +1,11 @@
-//! A plain safe checker with the behaviour of `trace_check`, for the benchmark:
-//! text to words, soundness, verdict and line are separate passes; no heap, no unsafe.
+//! A plain safe checker with the behaviour of `trace_check`, `trace_equal` and the serial calls,
+//! for the benchmark. Text to words, soundness, verdict and line are separate passes; equality
+//! and serial orders take one more over places linked to lists. No heap, no unsafe.
 
 const MOST_FRAMES: usize = 4096;
+const VARIABLES: usize = 1024;
+const LOCKS: usize = 64;
+const THREADS: usize = 32;
 const LINE_BYTES: usize = 33;
 const TEXT_LINE: usize = 9;
 const ABSENT: u16 = 0xFFFF;
@@ -55,21 +59,26 @@ impl Reply {
     }
 }
 
+#[inline(always)]
+fn word_of_line(line: &[u8]) -> Option<u32> {
+    let mut value = 0;
+    let mut seen = 0;
+    for &byte in &line[..8] {
+        let digit = DIGIT[usize::from(byte)];
+        seen |= digit;
+        value = value << 4 | u32::from(digit & 15);
+    }
+    (seen != NOT_A_DIGIT && line[8] == b'\n').then_some(value)
+}
+
 fn read_text<'a>(text: &[u8], words: &'a mut [u32; MOST_FRAMES]) -> Result<&'a [u32], Refusal> {
     let lines = text.chunks_exact(TEXT_LINE);
     let unfinished = !lines.remainder().is_empty();
     let count = lines.len().min(MOST_FRAMES);
     for (place, (line, word)) in lines.zip(words.iter_mut()).enumerate() {
-        let mut value = 0;
-        let mut seen = 0;
-        for &byte in &line[..8] {
-            let digit = DIGIT[usize::from(byte)];
-            seen |= digit;
-            value = value << 4 | u32::from(digit & 15);
-        }
-        if seen == NOT_A_DIGIT || line[8] != b'\n' {
+        let Some(value) = word_of_line(line) else {
             return refuse(1, place);
-        }
+        };
         *word = value;
     }
     if text.len() > MOST_FRAMES * TEXT_LINE {
@@ -83,8 +92,8 @@ fn read_text<'a>(text: &[u8], words: &'a mut [u32; MOST_FRAMES]) -> Result<&'a [
 
 fn check_sound(words: &[u32]) -> Result<(), Refusal> {
     let mut taken = 0u64;
-    let mut held = [0u64; 32];
-    let mut depths = [0u8; 32];
+    let mut held = [0u64; THREADS];
+    let mut depths = [0u8; THREADS];
     for (place, &word) in words.iter().enumerate() {
         let operation = (word >> 24) as usize;
         let thread = (word >> 16 & 255) as usize;
@@ -140,15 +149,19 @@ struct Thread {
     commit: u16,
 }
 
-/// The words are a sound recording.
-fn judge(words: &[u32]) -> Reply {
-    let mut sets = [u64::MAX; 1024];
-    let mut threads = [Thread {
+impl Thread {
+    const START: Thread = Thread {
         held: 0,
         depth: 0,
         begin: ABSENT,
         commit: ABSENT,
-    }; 32];
+    };
+}
+
+/// The words are a sound recording.
+fn judge(words: &[u32]) -> Reply {
+    let mut sets = [u64::MAX; VARIABLES];
+    let mut threads = [Thread::START; THREADS];
     for (place, &word) in words.iter().enumerate() {
         let place = place as u16;
         let number = (word >> 16 & 31) as u8;
@@ -226,4 +239,225 @@ pub fn check(text: &[u8], line: &mut [u8]) -> u8 {
     let reply = judged.unwrap_or_else(|no| Reply::without_violation(0x80 + no.number, no.place));
     write_line(&reply, line);
     reply.kind
+}
+
+fn packed(reply: Result<usize, Refusal>) -> u64 {
+    match reply {
+        Ok(count) => count as u64,
+        Err(refusal) => u64::from(refusal.number) << 32 | u64::from(refusal.place),
+    }
+}
+
+fn check_words(words: &[u32]) -> Result<(), Refusal> {
+    if words.len() > MOST_FRAMES {
+        return refuse(2, MOST_FRAMES);
+    }
+    check_sound(words)
+}
+
+/// Locks and variables in one numbering; begin and end touch none.
+fn touched(word: u32) -> Option<usize> {
+    match word >> 24 {
+        1 | 2 => Some((word & 63) as usize),
+        3 | 4 => Some(LOCKS + (word & 1023) as usize),
+        _ => None,
+    }
+}
+
+/// Places of one recording in lists: a head for each item, the next place for each place.
+struct Lists<const ITEMS: usize> {
+    heads: [u16; ITEMS],
+    next: [u16; MOST_FRAMES],
+}
+
+impl<const ITEMS: usize> Lists<ITEMS> {
+    fn new() -> Self {
+        Lists {
+            heads: [ABSENT; ITEMS],
+            next: [ABSENT; MOST_FRAMES],
+        }
+    }
+
+    fn push_front(&mut self, item: usize, place: usize) {
+        self.next[place] = self.heads[item];
+        self.heads[item] = place as u16;
+    }
+
+    fn pop_front(&mut self, item: usize) {
+        self.heads[item] = self.next[usize::from(self.heads[item])];
+    }
+}
+
+/// Both are sound. Each frame of the right must be the first one left of its thread and of what
+/// it touches.
+fn same_order(left: &[u32], right: &[u32]) -> bool {
+    if left.len() != right.len() {
+        return false;
+    }
+    let mut by_thread = Lists::<THREADS>::new();
+    let mut by_touched = Lists::<{ LOCKS + VARIABLES }>::new();
+    for (place, &word) in left.iter().enumerate().rev() {
+        by_thread.push_front((word >> 16 & 31) as usize, place);
+        if let Some(item) = touched(word) {
+            by_touched.push_front(item, place);
+        }
+    }
+    for &word in right {
+        let thread = (word >> 16 & 31) as usize;
+        let place = by_thread.heads[thread];
+        if left.get(usize::from(place)) != Some(&word) {
+            return false;
+        }
+        by_thread.pop_front(thread);
+        if let Some(item) = touched(word) {
+            if by_touched.heads[item] != place {
+                return false;
+            }
+            by_touched.pop_front(item);
+        }
+    }
+    true
+}
+
+pub fn equal(left: &[u32], right: &[u32]) -> u64 {
+    if let Err(refusal) = check_words(left) {
+        return packed(Err(refusal));
+    }
+    if let Err(refusal) = check_words(right) {
+        return packed(Err(refusal)) + (256 << 32);
+    }
+    u64::from(same_order(left, right))
+}
+
+enum Access {
+    Free,
+    Commits,
+    Wrong,
+}
+
+/// The words are a sound recording. Refusals 13 to 15.
+fn write_serial(
+    words: &[u32],
+    out: &mut [u32],
+    mut access: impl FnMut(&Thread, usize) -> Access,
+) -> Result<usize, Refusal> {
+    let mut threads = [Thread::START; THREADS];
+    let mut last = [0u16; THREADS];
+    // The first place of the unit that commits here, and the next place of the same unit.
+    let mut first = [ABSENT; MOST_FRAMES];
+    let mut next = [ABSENT; MOST_FRAMES];
+    for (place, &word) in words.iter().enumerate() {
+        let number = (word >> 16 & 31) as usize;
+        let thread = &mut threads[number];
+        let operation = word >> 24;
+        let lock = 1 << (word & 63);
+        let mut commits = false;
+        match operation {
+            1 if thread.commit != ABSENT => return refuse(13, place),
+            1 => thread.held |= lock,
+            2 => {
+                thread.held &= !lock;
+                commits = true;
+            }
+            3 | 4 => match access(thread, (word & 1023) as usize) {
+                Access::Free => {}
+                Access::Commits => commits = true,
+                Access::Wrong => return refuse(13, place),
+            },
+            _ => {}
+        }
+        if thread.depth == 0 {
+            if operation == 5 {
+                thread.depth = 1;
+                thread.begin = place as u16;
+                last[number] = place as u16;
+            } else {
+                first[place] = place as u16;
+            }
+            continue;
+        }
+        next[usize::from(last[number])] = place as u16;
+        last[number] = place as u16;
+        if operation == 5 {
+            thread.depth += 1;
+        } else if operation == 6 {
+            thread.depth -= 1;
+            commits = thread.depth == 0;
+        }
+        if commits && thread.commit == ABSENT {
+            thread.commit = place as u16;
+        }
+        if thread.depth == 0 {
+            first[usize::from(thread.commit)] = thread.begin;
+            thread.commit = ABSENT;
+        }
+    }
+    let open = threads.iter().filter(|thread| thread.depth > 0);
+    if let Some(begin) = open.map(|thread| thread.begin).min() {
+        return refuse(14, usize::from(begin));
+    }
+    let Some(out) = out.get_mut(..words.len()) else {
+        return refuse(15, words.len());
+    };
+    let mut places = first.iter().copied().filter(|&place| place != ABSENT);
+    let mut place = ABSENT;
+    for to in out {
+        if place == ABSENT {
+            place = places.next().unwrap_or(0);
+        }
+        *to = words[usize::from(place)];
+        place = next[usize::from(place)];
+    }
+    Ok(words.len())
+}
+
+/// The guard of each variable, `NO_GUARD` if it is not named.
+const NO_GUARD: u8 = 0xFF;
+
+fn read_guards(list: &[u8]) -> Result<[u8; VARIABLES], Refusal> {
+    let mut guards = [NO_GUARD; VARIABLES];
+    let lines = list.chunks_exact(TEXT_LINE);
+    let (count, unfinished) = (lines.len(), !lines.remainder().is_empty());
+    for (place, line) in lines.enumerate() {
+        let Some(word) = word_of_line(line) else {
+            return refuse(1, place);
+        };
+        let (variable, lock) = ((word >> 16) as usize, word & 0xFFFF);
+        if variable >= VARIABLES || lock as usize >= LOCKS {
+            return refuse(11, place);
+        }
+        if guards[variable] != NO_GUARD {
+            return refuse(12, place);
+        }
+        guards[variable] = lock as u8;
+    }
+    if unfinished {
+        return refuse(1, count);
+    }
+    Ok(guards)
+}
+
+pub fn serial_declared(list: &[u8], words: &[u32], out: &mut [u32]) -> u64 {
+    packed(read_guards(list).and_then(|guards| {
+        check_words(words)?;
+        write_serial(words, out, |thread, variable| match guards[variable] {
+            NO_GUARD if thread.commit == ABSENT => Access::Commits,
+            NO_GUARD => Access::Wrong,
+            guard if thread.held >> guard & 1 == 1 => Access::Free,
+            _ => Access::Wrong,
+        })
+    }))
+}
+
+pub fn serial_inferred(words: &[u32], out: &mut [u32]) -> u64 {
+    packed(check_words(words).and_then(|()| {
+        let mut sets = [u64::MAX; VARIABLES];
+        write_serial(words, out, |thread, variable| {
+            sets[variable] &= thread.held;
+            match sets[variable] {
+                0 => Access::Wrong,
+                _ => Access::Free,
+            }
+        })
+    }))
 }

@@ -1,4 +1,6 @@
-//! Seeded random recordings, guard lists and damaged texts.
+//! Seeded random recordings, exchanges of their frames, guard lists and damaged texts.
+
+use crate::independent;
 
 /// splitmix64.
 #[derive(Clone)]
@@ -224,6 +226,180 @@ pub fn recording(random: &mut Random, plan: &Plan) -> Recording {
         .map(|(&variable, guard)| (variable, guard.map(|lock| maker.lock_names[lock])))
         .collect();
     Recording { words, guards }
+}
+
+/// The frames of one block under locks, or outside any: locks are taken in ascending order and
+/// only before the commit, so that threads with such frames never wait for each other in a ring.
+fn unit_under_locks(random: &mut Random, thread: u32, locks: usize, unprotected: bool) -> Vec<u32> {
+    let word = |operation: u32, object: u32| operation << 24 | thread << 16 | object;
+    let mut held: Vec<u32> = (0..locks as u32).filter(|_| random.chance(400)).collect();
+    // Lock n guards variables 10 * n to 10 * n + 9.
+    let access = |random: &mut Random, held: &[u32]| {
+        let variable = 10 * random.pick(held) + random.below(10) as u32;
+        word(3 + random.below(2) as u32, variable)
+    };
+    let mut frames = Vec::new();
+    for (count, &lock) in held.iter().enumerate() {
+        frames.push(word(1, lock));
+        for _ in 0..random.below(3) {
+            frames.push(access(random, &held[..=count]));
+        }
+    }
+    if unprotected && random.chance(300) {
+        frames.push(word(
+            3 + random.below(2) as u32,
+            random.between(100, 103) as u32,
+        ));
+    }
+    while !held.is_empty() {
+        frames.push(word(2, held.swap_remove(random.below(held.len()))));
+        if !held.is_empty() && random.chance(500) {
+            frames.push(access(random, &held));
+        }
+    }
+    if random.chance(800) {
+        for _ in 0..random.pick(&[0, 0, 0, 1, 2]) {
+            let begin = random.between(0, frames.len());
+            let end = random.between(begin, frames.len());
+            frames.insert(end, word(6, 0));
+            frames.insert(begin, word(5, 0));
+        }
+        frames.insert(0, word(5, 0));
+        frames.push(word(6, 0));
+    }
+    frames
+}
+
+/// The frames of several threads interleaved at random. An acquire waits for its lock; where all
+/// wait, the rest is left out.
+fn schedule(random: &mut Random, threads: &[Vec<u32>]) -> Vec<u32> {
+    let mut taken = 0u64;
+    let mut words = Vec::new();
+    let mut done = vec![0; threads.len()];
+    loop {
+        let ready: Vec<usize> = (0..threads.len())
+            .filter(|&thread| {
+                let next = threads[thread].get(done[thread]);
+                next.is_some_and(|word| word >> 24 != 1 || taken >> (word & 63) & 1 == 0)
+            })
+            .collect();
+        if ready.is_empty() {
+            return words;
+        }
+        let thread = random.pick(&ready);
+        let word = threads[thread][done[thread]];
+        if matches!(word >> 24, 1 | 2) {
+            taken ^= 1 << (word & 63);
+        }
+        words.push(word);
+        done[thread] += 1;
+    }
+}
+
+/// The same frames of each thread in another interleaving: sound if the recording is, but locks
+/// and variables may be met in another order.
+pub fn reschedule(random: &mut Random, words: &[u32]) -> Vec<u32> {
+    let mut threads = vec![Vec::new(); 256];
+    for &word in words {
+        threads[(word >> 16 & 255) as usize].push(word);
+    }
+    threads.retain(|frames| !frames.is_empty());
+    schedule(random, &threads)
+}
+
+/// Units of several threads under at most eight locks, interleaved at random: reducible, and
+/// every block is closed.
+pub fn interleaved(random: &mut Random, units: usize, unprotected: bool) -> Recording {
+    let locks = random.between(1, 8);
+    let threads = random.between(1, 5);
+    let mut waiting: Vec<Vec<u32>> = vec![Vec::new(); threads];
+    let thread_names = random.names(threads, 32);
+    for _ in 0..units {
+        let thread = random.below(threads);
+        let frames = unit_under_locks(random, thread_names[thread], locks, unprotected);
+        waiting[thread].extend(frames);
+    }
+    let words = schedule(random, &waiting);
+    let guarded = (0..10 * locks as u32).map(|variable| (variable, Some(variable / 10)));
+    let guards = guarded.chain((100..104).map(|variable| (variable, None)));
+    Recording {
+        words,
+        guards: guards.collect(),
+    }
+}
+
+/// Takes away last frames until ends for all open blocks fit in `most` frames, and adds these.
+pub fn close_blocks(random: &mut Random, words: &mut Vec<u32>, most: usize) {
+    loop {
+        let mut depths = [0usize; 256];
+        for word in words.iter() {
+            let depth = &mut depths[(word >> 16 & 255) as usize];
+            match word >> 24 {
+                5 => *depth += 1,
+                6 => *depth = depth.saturating_sub(1),
+                _ => {}
+            }
+        }
+        if words.len() + depths.iter().sum::<usize>() <= most {
+            let mut ends: Vec<u32> = (0..256)
+                .flat_map(|thread| vec![6 << 24 | thread << 16; depths[thread as usize]])
+                .collect();
+            random.shuffle(&mut ends);
+            words.extend(ends);
+            return;
+        }
+        words.pop();
+    }
+}
+
+/// Sweeps of exchanges of independent neighbours.
+pub fn exchange(random: &mut Random, words: &mut [u32], sweeps: usize) {
+    for _ in 0..sweeps {
+        for place in 1..words.len() {
+            if random.chance(600) && independent(words[place - 1], words[place]) {
+                words.swap(place - 1, place);
+            }
+        }
+    }
+}
+
+/// One exchange of different neighbours that are not independent, if there are any; those of
+/// different threads or of any, at random.
+pub fn forbidden_exchange(random: &mut Random, words: &mut [u32]) {
+    let any_thread = random.chance(300);
+    let places: Vec<usize> = (1..words.len())
+        .filter(|&place| {
+            let (left, right) = (words[place - 1], words[place]);
+            let same_thread = left >> 16 & 255 == right >> 16 & 255;
+            left != right && (any_thread || !same_thread) && !independent(left, right)
+        })
+        .collect();
+    if let (Some(&first), Some(&last)) = (places.first(), places.last()) {
+        let any = random.pick(&places);
+        let place = random.pick(&[first, last, any, any]);
+        words.swap(place - 1, place);
+    }
+}
+
+/// Makes one to three small changes to the frames of a recording; most are then refused.
+pub fn damage_frames(random: &mut Random, words: &mut Vec<u32>) {
+    for _ in 0..random.between(1, 3) {
+        if words.is_empty() {
+            words.push(edge_word(random));
+            continue;
+        }
+        let (place, other) = (random.below(words.len()), random.below(words.len()));
+        match random.below(40) {
+            0..10 => words.insert(place, edge_word(random)),
+            10..16 => drop(words.remove(place)),
+            16..22 => words.insert(place, words[place]),
+            22..26 => words[place] ^= 1 << random.below(32),
+            26..30 => words.swap(place, other),
+            30..34 => words.splice(place..place, [5 << 24; 16]).for_each(drop),
+            34..39 => words[place] ^= 3 << 24,
+            _ => words.resize(random.between(4096, 4099), words[place]),
+        }
+    }
 }
 
 pub fn text_of_words(words: &[u32]) -> Vec<u8> {

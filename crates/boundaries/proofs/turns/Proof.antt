@@ -1,9 +1,9 @@
 -- Invariant: the length is as it was, and i is at most that.
-use Prim.Native.Nat.{ℕ, _-_, _≤_}
+use Prim.Native.Nat.{_-_, _≤_}
 use mathlib.Core.Path.{_≡_, refl}
 use native.Mathlib.Omega.{arith}
 use borrow.Author.Needs.{needs}
-use lib.ListN.{length, length-set}
+use lib.ListN.{length}
 use Rattle.boundaries.proofs.turns.Statement.{statement}
 use Rattle.boundaries.proofs.turns.Tie as tie
 

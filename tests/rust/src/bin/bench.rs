@@ -1,10 +1,11 @@
-//! A benchmark, not a test: `trace_check` of the archive against the plain Rust checker.
+//! A benchmark, not a test: `trace_check`, `trace_equal` and the serial orders of the archive
+//! against the plain Rust checker.
 //! Arguments: an optional number of rounds.
 
 use std::hint::black_box;
 use std::time::Instant;
 use trace_tests::plain;
-use trace_tests::random::{recording, text_of_words, Plan, Random};
+use trace_tests::random::{close_blocks, recording, text_of_words, Plan, Random};
 
 #[path = "../ffi.rs"]
 mod ffi;
@@ -14,6 +15,11 @@ const ROUNDS: usize = 101;
 const FRAMES: usize = 4096;
 /// About so many bytes of text are read in one round.
 const ROUND_BYTES: usize = 64 * 9 * FRAMES;
+/// Lengths that show how the time of equality and serial orders grows.
+const LENGTHS: [usize; 3] = [64, 512, FRAMES];
+/// About so many frames are taken in one round of these.
+const ROUND_FRAMES: usize = 64 * FRAMES;
+const DIFFERENT: usize = 64;
 
 type Check = fn(&[u8], &mut [u8]) -> u8;
 
@@ -95,50 +101,181 @@ fn median(mut times: Vec<f64>) -> f64 {
     times[times.len() / 2]
 }
 
-fn main() {
-    let rounds = match std::env::args().nth(1) {
-        Some(argument) => argument.parse().expect("the number of rounds is a number"),
-        None => ROUNDS,
-    };
+/// Medians of the library and of Rust; each goes first in every other round.
+fn medians(
+    rounds: usize,
+    mut library: impl FnMut() -> f64,
+    mut rust: impl FnMut() -> f64,
+) -> (f64, f64) {
+    let mut library_times = Vec::new();
+    let mut rust_times = Vec::new();
+    for number in 0..=rounds {
+        let (library_time, rust_time);
+        if number % 2 == 0 {
+            library_time = library();
+            rust_time = rust();
+        } else {
+            rust_time = rust();
+            library_time = library();
+        }
+        // The first round warms up.
+        if number > 0 {
+            library_times.push(library_time);
+            rust_times.push(rust_time);
+        }
+    }
+    (median(library_times), median(rust_times))
+}
+
+fn check_rows(rounds: usize) {
     println!("Recordings of {FRAMES} frames; medians of {rounds} interleaved rounds, ns per call.");
     println!("The line buffer (33 bytes) is not cleared between calls.");
     println!(
         "{:40} {:>10} {:>10} {:>13}",
         "", "library", "Rust", "library/Rust"
     );
-    let mut line = [0; 33];
+    let (mut line, mut plain_line) = ([0; 33], [0; 33]);
     for workload in workloads() {
         for text in &workload.texts {
-            let mut plain_line = [0; 33];
             assert_eq!(ffi::check(text, &mut line), workload.kind);
             assert_eq!(plain::check(text, &mut plain_line), workload.kind);
             assert_eq!(line, plain_line);
         }
         let bytes: usize = workload.texts.iter().map(|text| text.len() + 1000).sum();
         let repeats = (ROUND_BYTES / bytes).max(1);
-        let mut library_times = Vec::new();
-        let mut rust_times = Vec::new();
-        for number in 0..=rounds {
-            let mut library = 0.0;
-            let mut rust = 0.0;
-            // Each goes first in every other round.
-            for turn in [number % 2, 1 - number % 2] {
-                match turn {
-                    0 => library = round(ffi::check, &workload.texts, repeats, &mut line),
-                    _ => rust = round(plain::check, &workload.texts, repeats, &mut line),
-                }
-            }
-            // The first round warms up.
-            if number > 0 {
-                library_times.push(library);
-                rust_times.push(rust);
-            }
-        }
-        let (library, rust) = (median(library_times), median(rust_times));
+        let (library, rust) = medians(
+            rounds,
+            || round(ffi::check, &workload.texts, repeats, &mut line),
+            || round(plain::check, &workload.texts, repeats, &mut plain_line),
+        );
         let ratio = library / rust;
         println!(
             "{:40} {library:>10.0} {rust:>10.0} {ratio:>13.2}",
             workload.name
         );
     }
+}
+
+// Equality and serial orders.
+
+/// A recording and its serial order.
+struct Pair {
+    words: Vec<u32>,
+    serial: Vec<u32>,
+}
+
+/// Takes the recording, its serial order and an output; replies as the library.
+type Call = fn(&[u32], &[u32], &mut [u32]) -> u64;
+
+struct Row {
+    name: &'static str,
+    /// All variables are unprotected, as with an empty list; otherwise guards are inferred.
+    unprotected: bool,
+    library: Call,
+    rust: Call,
+}
+
+const ROWS: [Row; 3] = [
+    Row {
+        name: "equality with the serial order",
+        unprotected: false,
+        library: |words, serial, _| ffi::equal(words, serial),
+        rust: |words, serial, _| plain::equal(words, serial),
+    },
+    Row {
+        name: "serial order, declared, empty list",
+        unprotected: true,
+        library: |words, _, out| ffi::serial_declared(&[], words, out),
+        rust: |words, _, out| plain::serial_declared(&[], words, out),
+    },
+    Row {
+        name: "serial order, inferred",
+        unprotected: false,
+        library: |words, _, out| ffi::serial_inferred(words, out),
+        rust: |words, _, out| plain::serial_inferred(words, out),
+    },
+];
+
+/// Random, reducible, closed and of just this length.
+fn pair(random: &mut Random, frames: usize, unprotected: bool) -> Pair {
+    loop {
+        let plan = Plan {
+            threads: random.between(2, 32),
+            locks: random.between(1, 64),
+            variables: random.between(1, 1024),
+            frames,
+            nesting: random.between(1, 3),
+            unprotected: if unprotected { 1000 } else { 0 },
+            careless: 0,
+            wild: 0,
+        };
+        let mut words = recording(random, &plan).words;
+        close_blocks(random, &mut words, frames);
+        let mut serial = vec![0; frames];
+        let written = match unprotected {
+            true => plain::serial_declared(&[], &words, &mut serial),
+            false => plain::serial_inferred(&words, &mut serial),
+        };
+        if words.len() == frames {
+            assert_eq!(written, frames as u64);
+            return Pair { words, serial };
+        }
+    }
+}
+
+/// Nanoseconds per call over one round.
+fn round_of_pairs(call: Call, pairs: &[Pair], repeats: usize, out: &mut [u32]) -> f64 {
+    let start = Instant::now();
+    for _ in 0..repeats {
+        for Pair { words, serial } in pairs {
+            let out = &mut black_box(&mut *out)[..words.len()];
+            black_box(call(black_box(words), black_box(serial), out));
+        }
+    }
+    start.elapsed().as_nanos() as f64 / (repeats * pairs.len()) as f64
+}
+
+fn order_rows(rounds: usize) {
+    println!();
+    println!("{DIFFERENT} random reducible closed recordings in turn; medians as above.");
+    println!(
+        "{:40} {:>10} {:>10} {:>13} {:>17}",
+        "", "library", "Rust", "library/Rust", "ns per frame"
+    );
+    let random = &mut Random::new(SEED);
+    let (mut out, mut plain_out) = (vec![0; FRAMES], vec![0; FRAMES]);
+    for row in ROWS {
+        for frames in LENGTHS {
+            let pairs: Vec<Pair> = (0..DIFFERENT)
+                .map(|_| pair(random, frames, row.unprotected))
+                .collect();
+            for Pair { words, serial } in &pairs {
+                let reply = (row.library)(words, serial, &mut out[..frames]);
+                assert_eq!(reply, (row.rust)(words, serial, &mut plain_out[..frames]));
+                assert!(reply == 1 || reply == frames as u64);
+                assert_eq!(out, plain_out);
+            }
+            let repeats = (ROUND_FRAMES / (frames * pairs.len())).max(1);
+            let (library, rust) = medians(
+                rounds,
+                || round_of_pairs(row.library, &pairs, repeats, &mut out),
+                || round_of_pairs(row.rust, &pairs, repeats, &mut plain_out),
+            );
+            let (library_each, rust_each) = (library / frames as f64, rust / frames as f64);
+            println!(
+                "{:40} {library:>10.0} {rust:>10.0} {:>13.2} {library_each:>8.2} {rust_each:>8.2}",
+                format!("{}, {frames}", row.name),
+                library / rust
+            );
+        }
+    }
+}
+
+fn main() {
+    let rounds = match std::env::args().nth(1) {
+        Some(argument) => argument.parse().expect("the number of rounds is a number"),
+        None => ROUNDS,
+    };
+    check_rows(rounds);
+    order_rows(rounds);
 }

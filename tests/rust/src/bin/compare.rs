@@ -4,14 +4,21 @@
 
 use std::process::exit;
 use trace_tests::random::{self, text_of_words, Plan, Random};
-use trace_tests::{check, declared, guards, inferred, plain, read, LINE_BYTES, VARIABLES};
+use trace_tests::{
+    brute_equal, check, declared, equal, guards, inferred, plain, read, serial_declared,
+    serial_inferred, LINE_BYTES, VARIABLES,
+};
 
 #[path = "../ffi.rs"]
 mod ffi;
 
 const DEFAULT_SEED: u64 = 1;
 const CHECK_CASES: usize = 200_000;
+const EQUAL_CASES: usize = 120_000;
 const OTHER_CASES: usize = 60_000;
+/// Pairs for the search that equality is defined by.
+const BRUTE_PAIRS: usize = 6_000;
+const BRUTE_FRAMES: usize = 8;
 /// One case of so many is about the limit of 4,096 frames.
 const LONG_EVERY: usize = 400;
 /// Elements on both sides of each buffer, which no call may touch.
@@ -24,6 +31,9 @@ struct Calls {
     guards: fn(&[u8]) -> u64,
     declared: fn(&[u8], &[u32], &mut [u8]) -> u8,
     inferred: fn(&[u32], &mut [u64], &mut [u8]) -> u8,
+    equal: fn(&[u32], &[u32]) -> u64,
+    serial_declared: fn(&[u8], &[u32], &mut [u32]) -> u64,
+    serial_inferred: fn(&[u32], &mut [u32]) -> u64,
 }
 
 const REFERENCE: Calls = Calls {
@@ -33,6 +43,9 @@ const REFERENCE: Calls = Calls {
     guards,
     declared,
     inferred,
+    equal,
+    serial_declared,
+    serial_inferred,
 };
 
 const LIBRARY: Calls = Calls {
@@ -42,14 +55,26 @@ const LIBRARY: Calls = Calls {
     guards: ffi::guards,
     declared: ffi::declared,
     inferred: ffi::inferred,
+    equal: ffi::equal,
+    serial_declared: ffi::serial_declared,
+    serial_inferred: ffi::serial_inferred,
 };
 
-/// Only `check` is its own.
+/// The other calls are those of the reference.
 const PLAIN: Calls = Calls {
     name: "plain Rust",
     check: plain::check,
+    equal: plain::equal,
+    serial_declared: plain::serial_declared,
+    serial_inferred: plain::serial_inferred,
     ..REFERENCE
 };
+const PLAIN_FAMILIES: [Family; 4] = [
+    Family::Check,
+    Family::Equal,
+    Family::SerialDeclared,
+    Family::SerialInferred,
+];
 
 // Cases and outcomes.
 
@@ -60,7 +85,12 @@ enum Family {
     Guards,
     Declared,
     Inferred,
+    Equal,
+    SerialDeclared,
+    SerialInferred,
 }
+
+const SERIAL: [Family; 2] = [Family::SerialDeclared, Family::SerialInferred];
 
 /// The input and the lengths of the lent buffers; a family ignores what it does not take.
 #[derive(Clone)]
@@ -69,7 +99,10 @@ struct Case {
     /// Recording text, or guard list.
     text: Vec<u8>,
     frames: Vec<u32>,
+    /// The right recording.
+    right: Vec<u32>,
     line_len: usize,
+    /// Also the length of the output of a serial order.
     words_len: usize,
     sets_len: usize,
     /// Decides the contents of the lent buffers before the call.
@@ -102,6 +135,7 @@ impl Case {
             family,
             text: Vec::new(),
             frames: Vec::new(),
+            right: Vec::new(),
             line_len: LINE_BYTES,
             words_len: 0,
             sets_len: VARIABLES,
@@ -115,7 +149,8 @@ impl Case {
         let skip = random.below(MARGIN);
         let text = [vec![b'0'; skip], self.text.clone()].concat();
         let frames = [vec![0; skip], self.frames.clone()].concat();
-        let (text_in, frames_in) = (&text[skip..], &frames[skip..]);
+        let right = [vec![0; skip], self.right.clone()].concat();
+        let (text_in, frames_in, right_in) = (&text[skip..], &frames[skip..], &right[skip..]);
         let uses = |families: &[Family], len| {
             if families.contains(&self.family) {
                 len
@@ -125,7 +160,8 @@ impl Case {
         };
         let line_users = [Family::Check, Family::Declared, Family::Inferred];
         let mut line = filled(random, uses(&line_users, self.line_len), |x| x as u8);
-        let mut words = filled(random, uses(&[Family::Read], self.words_len), |x| x as u32);
+        let words_users = [Family::Read, Family::SerialDeclared, Family::SerialInferred];
+        let mut words = filled(random, uses(&words_users, self.words_len), |x| x as u32);
         let mut sets = filled(random, uses(&[Family::Inferred], self.sets_len), |x| x);
         let reply = match self.family {
             Family::Check => (calls.check)(text_in, slot(&mut line)).into(),
@@ -135,14 +171,19 @@ impl Case {
             Family::Inferred => {
                 (calls.inferred)(frames_in, slot(&mut sets), slot(&mut line)).into()
             }
+            Family::Equal => (calls.equal)(frames_in, right_in),
+            Family::SerialDeclared => (calls.serial_declared)(text_in, frames_in, slot(&mut words)),
+            Family::SerialInferred => (calls.serial_inferred)(frames_in, slot(&mut words)),
         };
-        let (text, frames) = std::hint::black_box((text, frames));
+        let (text, frames, right) = std::hint::black_box((text, frames, right));
         Outcome {
             reply,
             line,
             words,
             sets,
-            input_kept: text[skip..] == self.text && frames[skip..] == self.frames,
+            input_kept: text[skip..] == self.text
+                && frames[skip..] == self.frames
+                && right[skip..] == self.right,
         }
     }
 
@@ -150,6 +191,7 @@ impl Case {
         println!("call {}", NAMES[self.family as usize]);
         println!("text \"{}\"", self.text.escape_ascii());
         println!("frames {:08X?}", self.frames);
+        println!("right frames {:08X?}", self.right);
         let (line, words, sets) = (self.line_len, self.words_len, self.sets_len);
         println!(
             "lengths: line {line}, words {words}, sets {sets}; fill {}",
@@ -169,15 +211,52 @@ impl Case {
                 outcome.print(calls.name);
                 exit(1);
             }
-            if self.family != Family::Check {
+            if !PLAIN_FAMILIES.contains(&self.family) {
                 break;
             }
+        }
+        if SERIAL.contains(&self.family) && expected.reply >> 32 == 0 {
+            self.check_serial(&expected);
         }
         expected
     }
 }
 
+/// No other thread's frame stands inside a block.
+fn is_serial(words: &[u32]) -> bool {
+    let (mut inside, mut depth) = (0, 0);
+    words.iter().all(|word| {
+        let thread = word >> 16 & 255;
+        let alone = depth == 0 || thread == inside;
+        inside = thread;
+        match word >> 24 {
+            5 => depth += 1,
+            6 => depth -= 1,
+            _ => {}
+        }
+        alone
+    })
+}
+
+impl Case {
+    /// A written serial order is serial and equal to the recording.
+    fn check_serial(&self, outcome: &Outcome) {
+        let written = outcome.written();
+        if !is_serial(written) || equal(&self.frames, written) != 1 {
+            println!("NOT A SERIAL ORDER of the recording");
+            self.print();
+            outcome.print("all");
+            exit(1);
+        }
+    }
+}
+
 impl Outcome {
+    /// The serial order; there was no refusal.
+    fn written(&self) -> &[u32] {
+        &self.words[MARGIN..][..self.reply as usize]
+    }
+
     fn print(&self, name: &str) {
         println!(
             "{name}: reply {:X}, input kept: {}",
@@ -220,6 +299,9 @@ impl Literals {
             guards: |_| 0,
             declared: |_, _, _| 0,
             inferred: |_, _, _| 0,
+            equal: |_, _| 0,
+            serial_declared: |_, _, _| 0,
+            serial_inferred: |_, _| 0,
             name: "untouched",
         });
         for calls in [&REFERENCE, &PLAIN, &LIBRARY] {
@@ -312,6 +394,66 @@ impl Literals {
         self.expect(case, reply, &|_, _| true);
     }
 
+    /// Both ways round, for pairs that are not refused.
+    fn equal(&mut self, left: &str, right: &str, reply: u64) {
+        self.equal_raw(&frames(left), &frames(right), reply);
+        self.equal_raw(&frames(right), &frames(left), reply);
+    }
+
+    fn equal_raw(&mut self, left: &[u32], right: &[u32], reply: u64) {
+        let mut case = Case::new(Family::Equal);
+        (case.frames, case.right) = (left.to_vec(), right.to_vec());
+        self.expect(case, reply, &|_, _| true);
+    }
+
+    /// The serial order by place, in outputs of exact and of greater length; a shorter one is
+    /// refused by 15. Without a list the guards are inferred.
+    fn serial(&mut self, list: Option<&str>, words: &str, places: &[usize]) {
+        let frames = frames(words);
+        let order: Vec<u32> = places.iter().map(|&place| frames[place]).collect();
+        let list = list.map(text);
+        let count = frames.len();
+        for out_len in [count, count + 1, count + 20] {
+            self.serial_raw(list.as_deref(), &frames, out_len, count as u64, &order);
+        }
+        for out_len in [0, count.saturating_sub(1)] {
+            if out_len < count {
+                let refusal = 15 << 32 | count as u64;
+                self.serial_raw(list.as_deref(), &frames, out_len, refusal, &[]);
+            }
+        }
+    }
+
+    fn serial_raw(
+        &mut self,
+        list: Option<&[u8]>,
+        frames: &[u32],
+        out_len: usize,
+        reply: u64,
+        order: &[u32],
+    ) {
+        let mut case = Case::new(match list {
+            Some(_) => Family::SerialDeclared,
+            None => Family::SerialInferred,
+        });
+        case.text = list.unwrap_or_default().to_vec();
+        (case.frames, case.words_len) = (frames.to_vec(), out_len);
+        self.expect(case, reply, &|outcome, before| {
+            let mut words_after = before.words.clone();
+            words_after[MARGIN..][..order.len()].copy_from_slice(order);
+            outcome.words == words_after
+        });
+    }
+
+    /// The serial order is refused whatever the length of the output, which stays as it was.
+    fn serial_refused(&mut self, list: Option<&str>, words: &str, number: u64, place: u64) {
+        let (list, frames) = (list.map(text), frames(words));
+        for out_len in [0, frames.len(), frames.len() + 5] {
+            let refusal = number << 32 | place;
+            self.serial_raw(list.as_deref(), &frames, out_len, refusal, &[]);
+        }
+    }
+
     /// Refusal 17 comes first, whatever the input; nothing is written.
     fn short_line(&mut self, mut case: Case) {
         for line_len in [0, 1, 32] {
@@ -350,7 +492,7 @@ fn bench_recordings(to: &mut Literals) {
         "00000300FFFFFFFF0000000000000000",
     );
     to.declared("00050002", "03000005", "01000000FFFFFFFF0000000000000004");
-    // J; H and I concern equality alone
+    // J; H and I concern equality alone, as below
     to.refused("01000003 01010003", "87000100FFFFFFFF0000000000000000");
     to.refused("01000003 02010003", "88000100FFFFFFFF0000000000000000");
     // Variable 5 under locks {1,2}, then {2,3}, then {3}
@@ -401,6 +543,149 @@ fn hidden_faults(to: &mut Literals) {
         "01000100FFFFFFFF0000000000000001",
     );
     to.inferred("01010000 03000005", "04000100FFFFFFFFFFFFFFFFFFFFFFFF", &[]);
+}
+
+fn equal_recordings(to: &mut Literals) {
+    // B, H, I
+    to.equal("", "", 1);
+    to.equal("03000000 03010001", "03010001 03000000", 1);
+    to.equal("03000000 03010000", "03010000 03000000", 0);
+    to.equal("04000000 04010000", "04010000 04000000", 0);
+    // C and its serial order
+    let c = "05000000 05010000 01000000 04000000 02000000 01010000 04010000 06000000 \
+             02010000 06010000";
+    let serial = "05000000 01000000 04000000 02000000 06000000 05010000 01010000 04010000 \
+                  02010000 06010000";
+    to.equal(c, serial, 1);
+    // Lock 0 against variable 0, and thread 1 against lock 1 and variable 1.
+    to.equal("01000000 03010000", "03010000 01000000", 1);
+    to.equal("01000001 04010000", "04010000 01000001", 1);
+    to.equal(
+        "05010000 01000001 03000001",
+        "01000001 03000001 05010000",
+        1,
+    );
+    // One thread keeps its order; begin and end touch nothing.
+    to.equal("03000000 03000001", "03000001 03000000", 0);
+    to.equal("05000000 03000000", "03000000 05000000", 0);
+    to.equal("05000000 05010000", "05010000 05000000", 1);
+    // One lock: the other thread's pair does not pass.
+    let pairs = "01000003 02000003 01010003 02010003";
+    to.equal(pairs, "01010003 02010003 01000003 02000003", 0);
+    to.equal(pairs, "01000003 02000003 01010003 02010003", 1);
+    // The frames between must pass as well.
+    to.equal(
+        "03000000 03010000 03010001 03020001",
+        "03020001 03000000 03010000 03010001",
+        0,
+    );
+    to.equal(
+        "03000000 03010001 03020002",
+        "03020002 03010001 03000000",
+        1,
+    );
+    // The same places, another operation, another object, other counts, other lengths.
+    to.equal("03000000", "04000000", 0);
+    to.equal("03000000", "03000001", 0);
+    to.equal("03000000", "03010000", 0);
+    to.equal(
+        "03000000 03000000 03010001",
+        "03000000 03010001 03010001",
+        0,
+    );
+    to.equal("03000000", "", 0);
+    to.equal("03000000 03010001", "03000000 03010001 03020002", 0);
+    let most = [0x0500_0000, 0x0600_0000].repeat(2048);
+    let more = [most.as_slice(), &[0x0500_0000]].concat();
+    to.equal_raw(&most, &most, 1);
+    to.equal_raw(&most, &most[..4094], 0);
+    // The left is checked whole before the right; both are checked whatever their lengths.
+    let left = |number: u64, place: u64| number << 32 | place;
+    let right = |number: u64, place: u64| (number + 256) << 32 | place;
+    to.equal_raw(&more, &most, left(2, 4096));
+    to.equal_raw(&most, &more, right(2, 4096));
+    to.equal_raw(&more, &[0xFFFF_FFFF], left(2, 4096));
+    to.equal_raw(&[0xFFFF_FFFF], &more, left(4, 0));
+    for (words, number, place) in [
+        ("05000000 00000000", 4, 1),
+        ("05200000", 5, 0),
+        ("01000040", 6, 0),
+        ("01000003 01010003", 7, 1),
+        ("01000003 02010003", 8, 1),
+        (&"05000000 ".repeat(16), 9, 15),
+        ("05000000 06000000 06000000", 10, 2),
+    ] {
+        let words = frames(words);
+        for other in ["", "03000000", "05000000 06000000 03000001"] {
+            let other = frames(other);
+            to.equal_raw(&words, &other, left(number, place));
+            to.equal_raw(&other, &words, right(number, place));
+        }
+        to.equal_raw(&words, &words, left(number, place));
+        to.equal_raw(&words, &[0xFFFF_FFFF], left(number, place));
+        to.equal_raw(&words, &more, left(number, place));
+    }
+}
+
+fn serial_orders(to: &mut Literals) {
+    // B, C
+    to.serial(None, "", &[]);
+    to.serial(Some(""), "", &[]);
+    let c = "05000000 05010000 01000000 04000000 02000000 01010000 04010000 06000000 \
+             02010000 06010000";
+    to.serial(None, c, &[0, 2, 3, 4, 7, 1, 5, 6, 8, 9]);
+    to.serial(Some("00000000"), c, &[0, 2, 3, 4, 7, 1, 5, 6, 8, 9]);
+    // Units are not ordered by their begin.
+    let units = "05000000 05010000 03010000 06010000 03000000 06000000";
+    to.serial(Some(""), units, &[1, 2, 3, 0, 4, 5]);
+    // Without a commit before it, the end commits; an access of a guarded variable does not.
+    to.serial(None, "05000000 05010000 06010000 06000000", &[1, 2, 0, 3]);
+    let guarded = "01000000 05000000 03000005 05010000 06010000 06000000";
+    to.serial(None, guarded, &[0, 3, 4, 1, 2, 5]);
+    to.serial(Some("00050000"), guarded, &[0, 3, 4, 1, 2, 5]);
+    to.serial(Some(""), guarded, &[0, 1, 2, 5, 3, 4]);
+    // Single frames stand between units; the inner end closes nothing.
+    let nested = "05000000 03010005 05000000 03020005 03000006 06000000 03010005 06000000";
+    to.serial(Some(""), nested, &[1, 3, 0, 2, 4, 5, 7, 6]);
+    // The first release commits, not a later one.
+    let releases = "01000000 01000001 05000000 02000000 05010000 06010000 02000001 06000000";
+    to.serial(None, releases, &[0, 1, 2, 3, 6, 7, 4, 5]);
+    // Unguarded F, and D declared.
+    to.serial(Some(""), "05000000 03000005 06000000", &[0, 1, 2]);
+    to.serial(Some(""), "03000005", &[0]);
+    // 13: A, D, E, G
+    let a = "05010000 01010000 03010000 02010000 01010000 03010001 02010000 06010000";
+    to.serial_refused(None, a, 13, 4);
+    to.serial_refused(Some("00000000 00010000"), a, 13, 4);
+    to.serial_refused(None, "03000005", 13, 0);
+    to.serial_refused(Some(""), "05000000 03000005 03000005", 13, 2);
+    to.serial_refused(Some("00050002"), "03000005", 13, 0);
+    // 14: begin alone; the smallest outermost begin that stays open.
+    to.serial_refused(None, "05000000", 14, 0);
+    to.serial_refused(Some(""), "05000000", 14, 0);
+    to.serial_refused(None, "05010000 06010000 05010000 05000000 05010000", 14, 2);
+    to.serial_refused(None, "05000000 05010000 05010000 06010000 06000000", 14, 1);
+    to.serial_refused(None, "051F0000 05000000 06000000", 14, 0);
+    // J, and every refusal before the next: list, recording, 13, 14, 15.
+    to.serial_refused(None, "01000003 01010003", 7, 1);
+    to.serial_refused(None, "01000003 02010003", 8, 1);
+    to.serial_refused(Some("04000000"), "FFFFFFFF", 11, 0);
+    to.serial_refused(Some("00050002 00050002"), "03000005", 12, 1);
+    to.serial_refused(Some("0005000"), "05000000", 1, 0);
+    to.serial_refused(Some("00050002"), "03000005 FFFFFFFF", 4, 1);
+    to.serial_refused(None, "05000000 03000005", 13, 1);
+    to.serial_refused(None, "03000005 06000000", 10, 1);
+    // 2 and the limits of the length.
+    let most = [0x0500_0000, 0x0600_0000].repeat(2048);
+    let more = [most.as_slice(), &[0xFFFF_FFFF]].concat();
+    for list in [None, Some(&b""[..])] {
+        to.serial_raw(list, &most, 4096, 4096, &most);
+        to.serial_raw(list, &most, 4095, 15 << 32 | 4096, &[]);
+        to.serial_raw(list, &more, 4097, 2 << 32 | 4096, &[]);
+        to.serial_raw(list, &more, 0, 2 << 32 | 4096, &[]);
+        to.serial_raw(list, &most[..4095], 4095, 14 << 32 | 4094, &[]);
+    }
+    to.serial_raw(Some(b"x"), &more, 0, 1 << 32, &[]);
 }
 
 fn frame_boundaries(to: &mut Literals) {
@@ -637,7 +922,9 @@ fn long_plan(random: &mut Random, unprotected: usize) -> Plan {
 fn random_recording(random: &mut Random, family: Family, long: bool) -> random::Recording {
     // Unprotected variables belong to declared guards; elsewhere they are soon a violation.
     let unprotected = match family {
-        Family::Guards | Family::Declared => random.pick(&[0, 100, 300, 1000]),
+        Family::Guards | Family::Declared | Family::SerialDeclared => {
+            random.pick(&[0, 100, 300, 1000])
+        }
         _ => random.pick(&[0, 0, 0, 0, 0, 100]),
     };
     let plan = if long {
@@ -688,6 +975,123 @@ fn random_list(random: &mut Random, guards: &[(u32, Option<u32>)]) -> Vec<u8> {
     list
 }
 
+/// A guard list of just these guards in random order.
+fn exact_list(random: &mut Random, guards: &[(u32, Option<u32>)]) -> Vec<u8> {
+    let named = |&(variable, guard): &(u32, Option<u32>)| Some(variable << 16 | guard?);
+    let mut words: Vec<u32> = guards.iter().filter_map(named).collect();
+    random.shuffle(&mut words);
+    text_of_words(&words)
+}
+
+/// A recording for equality and serial orders: most are closed and sound.
+fn random_units(random: &mut Random, family: Family, long: bool) -> random::Recording {
+    if !long && random.chance(500) {
+        let unprotected = family == Family::SerialDeclared && random.chance(700);
+        let mut units = random.pick(&[3, 10, 30]);
+        units = random.between(0, units);
+        let mut made = random::interleaved(random, units, unprotected);
+        if random.chance(60) {
+            random::forbidden_exchange(random, &mut made.words);
+        } else if random.chance(60) {
+            made.words.truncate(random.between(0, made.words.len()));
+        } else if random.chance(60) {
+            random::damage_frames(random, &mut made.words);
+        }
+        return made;
+    }
+    let mut made = random_recording(random, family, long);
+    if random.chance(if long { 800 } else { 600 }) {
+        let most = if long { 4096 } else { made.words.len() };
+        random::close_blocks(random, &mut made.words, most);
+    }
+    made
+}
+
+/// A recording that is equal to this one, or nearly.
+fn random_right(random: &mut Random, left: &[u32]) -> Vec<u32> {
+    let mut right = left.to_vec();
+    let sweeps = random.pick(&[0, 1, 3, 20]);
+    if random.chance(200) {
+        serial_inferred(left, &mut right);
+    }
+    random::exchange(random, &mut right, sweeps);
+    let place = random.below(right.len().max(1));
+    match random.below(12) {
+        0..5 => {}
+        5..8 => {
+            random::forbidden_exchange(random, &mut right);
+            random::exchange(random, &mut right, sweeps);
+        }
+        8..10 => right = random::reschedule(random, left),
+        // Another operation or object, or another length: sound in some cases.
+        10 if !right.is_empty() => right[place] ^= random.pick(&[1, 2, 7 << 24, 1 << 16]),
+        _ => match random.below(4) {
+            0 => right.insert(place, 0x0300_0000 | random.below(4) as u32),
+            1 => right.truncate(place),
+            2 if !right.is_empty() => drop(right.remove(place)),
+            _ => right.extend([0x0505_0000, 0x0605_0000]),
+        },
+    }
+    right
+}
+
+fn random_pair(random: &mut Random, long: bool) -> (Vec<u32>, Vec<u32>) {
+    let mut left = random_units(random, Family::Equal, long);
+    if !long && random.chance(300) {
+        // Unguarded accesses are as good as others here.
+        left.words = random::interleaved(random, 6, true).words;
+    }
+    let mut left = left.words;
+    let mut right = match random.below(20) {
+        0 => random_units(random, Family::Equal, long).words,
+        _ => random_right(random, &left),
+    };
+    match random.below(20) {
+        0 => random::damage_frames(random, &mut left),
+        1..3 => random::damage_frames(random, &mut right),
+        3 => {
+            random::damage_frames(random, &mut left);
+            random::damage_frames(random, &mut right);
+        }
+        _ => {}
+    }
+    (left, right)
+}
+
+/// The search over exchanges and the projections agree on short sound recordings.
+fn compare_search(random: &mut Random) -> bool {
+    // Not equal and equal: all, and those with the same frames in another order.
+    let (mut counts, mut rearranged) = ([0; 2], [0; 2]);
+    while counts[0] + counts[1] < BRUTE_PAIRS {
+        let mut left = match random.below(3) {
+            0 => random_recording(random, Family::Equal, false).words,
+            _ => random::interleaved(random, 8, true).words,
+        };
+        left.truncate(random.between(2, BRUTE_FRAMES));
+        let right = random_right(random, &left);
+        let reply = equal(&left, &right);
+        if reply >> 32 != 0 {
+            continue;
+        }
+        if brute_equal(&left, &right) != (reply == 1) {
+            println!("SEARCH AND PROJECTIONS differ: {left:08X?} {right:08X?}");
+            exit(1);
+        }
+        let sorted = |words: &[u32]| {
+            let mut words = words.to_vec();
+            words.sort_unstable();
+            words
+        };
+        let same_frames = left != right && sorted(&left) == sorted(&right);
+        counts[reply as usize] += 1;
+        rearranged[reply as usize] += usize::from(same_frames);
+    }
+    let ([unequal, equal], [unequal_order, equal_order]) = (counts, rearranged);
+    println!("equality by search: {equal} equal, {equal_order} of these in another order");
+    println!("  {unequal} not equal, {unequal_order} of these with the same frames");
+    !rearranged.contains(&0)
+}
+
 fn random_case(random: &mut Random, family: Family, long: bool) -> Case {
     let mut case = Case::new(family);
     case.fill = random.draw();
@@ -722,28 +1126,63 @@ fn random_case(random: &mut Random, family: Family, long: bool) -> Case {
             case.frames = made.words;
         }
         Family::Inferred => case.frames = random_recording(random, family, long).words,
+        Family::Equal => (case.frames, case.right) = random_pair(random, long),
+        Family::SerialDeclared | Family::SerialInferred => {
+            let made = random_units(random, family, long);
+            if family == Family::SerialDeclared {
+                case.text = match random.below(10) {
+                    0 => Vec::new(),
+                    1..4 => random_list(random, &made.guards),
+                    _ => exact_list(random, &made.guards),
+                };
+            }
+            case.frames = made.words;
+            let count = case.frames.len();
+            case.words_len = match random.below(10) {
+                0 => random.between(0, count),
+                1 => count.saturating_sub(1),
+                2..6 => count,
+                _ => count + random.below(20),
+            };
+        }
     }
     case
 }
 
 // Counts.
 
-const NAMES: [&str; 5] = ["check", "read", "guards", "declared", "inferred"];
-const FAMILIES: [Family; 5] = [
+const NAMES: [&str; 8] = [
+    "check",
+    "read",
+    "guards",
+    "declared",
+    "inferred",
+    "equal",
+    "serial declared",
+    "serial inferred",
+];
+const FAMILIES: [Family; 8] = [
     Family::Check,
     Family::Read,
     Family::Guards,
     Family::Declared,
     Family::Inferred,
+    Family::Equal,
+    Family::SerialDeclared,
+    Family::SerialInferred,
 ];
 
-/// Kinds and refusals that can occur, per call. Kind 0 of read and guards: accepted.
-const POSSIBLE: [(&[usize], &[usize]); 5] = [
+/// Kinds and refusals that can occur, per call. Kind 0 of read and guards: accepted; of equal:
+/// not equal, and 1: equal; of the serial orders: written.
+const POSSIBLE: [(&[usize], &[usize]); 8] = [
     (&[0, 3, 4], &[1, 2, 4, 5, 6, 7, 8, 9, 10, 17]),
     (&[0], &[1, 2, 3]),
     (&[0], &[1, 11, 12]),
     (&[0, 1, 2, 3], &[1, 2, 4, 5, 6, 7, 8, 9, 10, 11, 12, 17]),
     (&[0, 3, 4], &[2, 4, 5, 6, 7, 8, 9, 10, 16, 17]),
+    (&[0, 1], &[2, 4, 5, 6, 7, 8, 9, 10]),
+    (&[0], &[1, 2, 4, 5, 6, 7, 8, 9, 10, 11, 12, 13, 14, 15]),
+    (&[0], &[2, 4, 5, 6, 7, 8, 9, 10, 13, 14, 15]),
 ];
 
 #[derive(Default)]
@@ -751,24 +1190,53 @@ struct Tally {
     cases: usize,
     kinds: [usize; 5],
     refusals: [usize; 18],
+    /// Refusals of the right recording.
+    right_refusals: [usize; 18],
     /// Violations of kind 1 or 4 with begin absent, begin alone, begin and commit.
     shapes: [usize; 3],
+    /// Equal recordings in another order, unequal ones of one length, serial orders that are not
+    /// the recording.
+    moved: [usize; 3],
+    /// Recordings near the limit of the length that are equal in another order, or have a serial
+    /// order that is not the recording.
+    long_moved: usize,
 }
 
+/// So many frames are near the limit of the length.
+const LONG: usize = 4000;
+
 impl Tally {
-    fn count(&mut self, family: Family, outcome: &Outcome) {
+    fn count(&mut self, case: &Case, outcome: &Outcome) {
         self.cases += 1;
-        let reply = outcome.reply;
+        let (family, reply) = (case.family, outcome.reply);
+        let (high, low) = ((reply >> 32) as usize, reply as usize & 0xFFFF_FFFF);
         let (kind, refusal) = match family {
-            Family::Read | Family::Guards => (0, (reply >> 32) as usize),
+            Family::Read | Family::Guards | Family::SerialDeclared | Family::SerialInferred => {
+                (0, high)
+            }
+            Family::Equal => (low, high),
             _ if reply >= 0x80 => (0, reply as usize - 0x80),
             _ => (reply as usize, 0),
         };
         match refusal {
             0 => self.kinds[kind] += 1,
-            _ => self.refusals[refusal] += 1,
+            1..256 => self.refusals[refusal] += 1,
+            _ => self.right_refusals[refusal - 256] += 1,
         }
-        if kind == 1 || kind == 4 {
+        if refusal != 0 {
+            return;
+        }
+        if family == Family::Equal {
+            let same_length = case.frames.len() == case.right.len();
+            let moved = kind == 1 && case.frames != case.right;
+            self.moved[0] += usize::from(moved);
+            self.moved[1] += usize::from(kind == 0 && same_length);
+            self.long_moved += usize::from(moved && case.frames.len() >= LONG);
+        } else if SERIAL.contains(&family) {
+            let moved = outcome.written() != case.frames;
+            self.moved[2] += usize::from(moved);
+            self.long_moved += usize::from(moved && case.frames.len() >= LONG);
+        } else if kind == 1 || kind == 4 {
             let places = &outcome.line[MARGIN + 8..MARGIN + 16];
             let present = |place: &[u8]| usize::from(place != b"FFFF");
             self.shapes[present(&places[..4]) + present(&places[4..])] += 1;
@@ -784,12 +1252,29 @@ impl Tally {
             of.iter().all(|&n| counts[n] > 0)
         };
         println!("{}: {} cases", NAMES[family as usize], self.cases);
-        let mut complete = shown("kinds   ", kinds, &self.kinds);
-        complete &= shown("refusals", refusals, &self.refusals);
-        if kinds.contains(&1) || kinds.contains(&4) {
-            let [absent, alone, both] = self.shapes;
-            println!("  kind 1 or 4 outside: {absent}, before commit: {alone}, after: {both}");
-            complete &= !self.shapes.contains(&0);
+        let mut complete = true;
+        let [equal_moved, unequal_same_length, serial_moved] = self.moved;
+        let long = self.long_moved;
+        if family == Family::Equal {
+            let [unequal, equal, ..] = self.kinds;
+            println!("  equal: {equal}, {equal_moved} of these in another order, {long} long");
+            println!("  not equal: {unequal}, {unequal_same_length} of these of one length");
+            complete &= unequal_same_length > 0 && unequal > unequal_same_length && long > 0;
+            complete &= shown("refusals, left ", refusals, &self.refusals);
+            complete &= shown("refusals, right", refusals, &self.right_refusals);
+        } else if SERIAL.contains(&family) {
+            let written = self.kinds[0];
+            println!("  written: {written}, {serial_moved} of these not as recorded, {long} long");
+            complete &= written > serial_moved && long > 0;
+            complete &= shown("refusals", refusals, &self.refusals);
+        } else {
+            complete &= shown("kinds   ", kinds, &self.kinds);
+            complete &= shown("refusals", refusals, &self.refusals);
+            if kinds.contains(&1) || kinds.contains(&4) {
+                let [absent, alone, both] = self.shapes;
+                println!("  kind 1 or 4 outside: {absent}, before commit: {alone}, after: {both}");
+                complete &= !self.shapes.contains(&0);
+            }
         }
         if !complete {
             println!("  FAILED: something that can occur did not");
@@ -809,6 +1294,8 @@ fn main() {
     frame_boundaries(&mut literals);
     order_of_refusals(&mut literals);
     lines_and_lists(&mut literals);
+    equal_recordings(&mut literals);
+    serial_orders(&mut literals);
     println!("literal cases: {}", literals.checked);
 
     println!("seed {seed}");
@@ -817,15 +1304,17 @@ fn main() {
     for family in FAMILIES {
         let cases = match family {
             Family::Check => CHECK_CASES,
+            Family::Equal => EQUAL_CASES,
             _ => OTHER_CASES,
         };
         let mut tally = Tally::default();
         for number in 0..cases {
             let case = random_case(random, family, number % LONG_EVERY == 0);
-            tally.count(family, &case.compare());
+            tally.count(&case, &case.compare());
         }
         complete &= tally.report(family);
     }
+    complete &= compare_search(random);
     if !complete {
         exit(1);
     }

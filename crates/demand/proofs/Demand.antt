@@ -1,0 +1,286 @@
+-- The third term, and what the code of the serial order needs of it. In this order: chosen locks change no key; the pass of a reducible
+-- recording; the term; the walk is the order; which recordings are closed.
+use Prim.Native.Nat.{ℕ, zero, suc, _+_, _-_, _≤_, _<_}
+use mathlib.Core.Path.{_≡_, refl, sym, ap, _∙_, subst}
+use mathlib.Core.Bool.{Bool, true, false, cond}
+use mathlib.Core.List.{List, [], _∷_, _++_, map}
+use native.Mathlib.Omega.{arith}
+use native.Mathlib.Numerals.{add-one}
+use borrow.Author.Tests.{eqb-true, eqb-false, ltb-true, ltb-false}
+use lib.Dec.{eqb, ltb}
+use lib.ListN.{length, getD, drop, List·getD-eq-default}
+use lib.Seq.{getD-drop}
+use Rattle.frame.proofs.Shared.{never}
+use Rattle.frame.specs.Frame.{decodeWord, encodeFrame}
+use Rattle.frame.specs.declared.Thread.{Thread}
+use Rattle.frame.specs.declared.Variable.{Variable}
+use Rattle.frame.specs.declared.Frame.{Frame}
+use Rattle.frame.specs.declared.Action.{Action}
+use Rattle.frame.specs.declared.Action.the-variants as action
+use Rattle.frame.specs.declared.Decoded.{Decoded}
+use Rattle.frame.specs.declared.Decoded.the-variants as decoded
+use Rattle.guards.specs.Guards.{guardOf}
+use Rattle.reply.specs.declared.Mark.{Mark}
+use Rattle.reply.specs.declared.Mark.the-variants.{At, Absent}
+use Rattle.reply.specs.declared.Verdict.{Verdict}
+use Rattle.reply.specs.declared.Verdict.the-variants as verdict
+use Rattle.soundness.specs.Soundness.{State, stepFrame, checkFrom, start}
+use Rattle.soundness.specs.declared.Outcome.{Outcome}
+use Rattle.soundness.specs.declared.Outcome.the-variants as outcome
+use Rattle.judge.specs.Rules.{accessOf, guardedAccess, operationOf}
+use Rattle.judge.specs.declared.Operation.{Operation}
+use Rattle.judge.specs.declared.Operation.the-variants.{Acquire, Release, Protected, Unprotected, Inferred, Begin, End}
+use Rattle.pass.specs.Pass.{Ended, judgeFrame, startJudging, fullSets}
+use Rattle.pass.proofs.Judgement.{judgement-pass, judgement-sound}
+use Rattle.rules.specs.Choice.{Reducible, Choice, choose}
+use Rattle.rules.proofs.Choice.{chosen, access-chosen, inferred-is-some-choice}
+use Rattle.exchange.specs.Exchange.{Exchanges, framesOf}
+use Rattle.exchange.specs.Independent.{independent}
+use Rattle.exchange.proofs.Frames.{AllDecode, frame-word, sound-all-decode}
+use Rattle.equal.proofs.Exchanges.{equal-is-exchanges, exchanged-length}
+use Rattle.serial.specs.Order.{Point, next, phaseOfThread, settled, commits, unitAt, unitsFrom, serialWords, Closed, Contiguous, nest}
+use Rattle.serial.specs.Walk.{ownFrame, onOwn, unitFrom, unitOf, unitStart, unitIn, onJudged, onFrame, walkFrom, walkWords, endPoint, earlier, openBegin, firstOpenFrom, firstOpen}
+use Rattle.serial.specs.declared.Own.{Own}
+use Rattle.serial.specs.declared.Own.the-variants as own
+use Rattle.reduction.proofs.Run as run
+use Rattle.reduction.proofs.Run.{threadOf, Run, begin, Good, depthAt, put}
+use Rattle.reduction.proofs.Steps.{by-test}
+use Rattle.reduction.proofs.Serial.{serialOrder, Serial, serial-exchanges, serial-serial}
+use Rattle.reduction.proofs.Units.{walk, serial-walk}
+use Rattle.reduction.proofs.Alike.{Alike, alike-same, alike-inferred, alike-accesses, serialOrder-alike}
+use Rattle.demand.specs.Demand.{ThirdTerm}
+use Rattle.demand.proofs.View.{Declared}
+use Rattle.demand.proofs.Recording.{Pass, less-one, pass-made, start-long, start-view, pass-good, order-frames, pass-depth, pass-walk, pass-end, pass-end-long}
+
+-- a variable's guard is the chosen lock where it is inferred
+choose-at : (guards locks : List ℕ) (x : ℕ) → getD (choose guards locks) x 0 ≡ cond (ltb 64 (getD guards x 0)) (getD locks x 0) (getD guards x 0)
+choose-at [] locks x = refl
+choose-at (c ∷ guards) locks zero = refl
+choose-at (c ∷ guards) locks (suc x) =
+    choose-at guards (drop 1 locks) x
+    ∙ ap (λ (n : ℕ). cond (ltb 64 (getD guards x 0)) n (getD guards x 0)) (getD-drop 1 locks x 0 ∙ ap (λ (n : ℕ). getD locks n 0) one-more)
+  where
+    one-more : 1 + x ≡ suc x
+    one-more = omega arith
+
+-- an operation under the chosen locks does the same to locks, depths and commits, and is under no inferred guard
+alike-chosen : (locks : List ℕ) (o : Operation) → Alike o (chosen locks o)
+alike-chosen locks (Acquire l) = alike-same (Acquire l)
+alike-chosen locks (Release l) = alike-same (Release l)
+alike-chosen locks (Protected m) = alike-same (Protected m)
+alike-chosen locks Unprotected = alike-same Unprotected
+alike-chosen locks (Inferred v) = alike-inferred v (record { 0 = getD locks (v .0) 0 })
+alike-chosen locks Begin = alike-same Begin
+alike-chosen locks End = alike-same End
+
+declared-chosen : (locks : List ℕ) (o : Operation) → Declared (chosen locks o)
+declared-chosen locks (Acquire l) = tt
+declared-chosen locks (Release l) = tt
+declared-chosen locks (Protected m) = tt
+declared-chosen locks Unprotected = tt
+declared-chosen locks (Inferred v) = tt
+declared-chosen locks Begin = tt
+declared-chosen locks End = tt
+
+module _ (guards locks : List ℕ) (c : Choice locks) where
+  access-choice : (v : Variable) → accessOf (choose guards locks) v ≡ chosen locks (accessOf guards v)
+  access-choice v =
+      ap (λ (n : ℕ). guardedAccess (guardOf n) v) (choose-at guards locks (v .0)) ∙ access-chosen locks v (getD guards (v .0) 0) (c .small (v .0))
+
+  choice-alike : (a : Action) → Alike (operationOf guards a) (operationOf (choose guards locks) a)
+  choice-alike =
+      alike-accesses guards (choose guards locks)
+      (λ v. subst (λ (o : Operation). Alike (accessOf guards v) o) (sym (access-choice v)) (alike-chosen locks (accessOf guards v)))
+
+  choice-declared : (a : Action) → Declared (operationOf (choose guards locks) a)
+  choice-declared (action.Acquire l) = tt
+  choice-declared (action.Release l) = tt
+  choice-declared (action.Read v) = subst Declared (sym (access-choice v)) (declared-chosen locks (accessOf guards v))
+  choice-declared (action.Write v) = subst Declared (sym (access-choice v)) (declared-chosen locks (accessOf guards v))
+  choice-declared action.Begin = tt
+  choice-declared action.End = tt
+
+-- The pass of a reducible recording.
+pub reducible-pass : (guards ws : List ℕ) → Reducible guards ws → Pass guards 0 start (startJudging fullSets) ws
+reducible-pass guards ws r =
+    pass-made guards 0 start (startJudging fullSets) ws
+    (sym (ap (λ (x : Ended). x .reply) (judgement-pass guards fullSets ws (judgement-sound guards fullSets ws verdict.Reducible r))) ∙ r) start-long
+
+-- where all blocks are closed, they are over frames
+closed-frames : (guards ws : List ℕ) → Reducible guards ws → Closed ws → run.Closed (framesOf ws)
+closed-frames guards ws r c t =
+    ap (λ (d : ℕ). depthAt t d (framesOf ws)) (sym (ap (λ (x : Run). x .depth t) start-view)) ∙ (pass-depth guards t (reducible-pass guards ws r) ∙ c t)
+
+-- no other thread's frame is inside a block
+nest-same : (d : ℕ) (a : Action) → run.nest d a ≡ nest d a
+nest-same d (action.Acquire l) = refl
+nest-same d (action.Release l) = refl
+nest-same d (action.Read v) = refl
+nest-same d (action.Write v) = refl
+nest-same d action.Begin = sym (add-one d)
+nest-same d action.End = sym (less-one d)
+
+serial-contiguous : (d e : ℕ → ℕ) (l : List Frame) → ((u : ℕ) → d u ≡ e u) → Serial d l → Contiguous e l
+serial-contiguous d e [] h s = tt
+serial-contiguous d e (f ∷ l) h s = (
+  λ u ne. sym (h u) ∙ s .0 u ne,
+  serial-contiguous (put d (threadOf f) (run.nest (d (threadOf f)) (f .action))) (λ u. cond (eqb u (threadOf f)) (nest (e u) (f .action)) (e u)) l
+      (λ u. by-test (eqb u (threadOf f))
+      (λ q. rw q (nest-same (d (threadOf f)) (f .action) ∙ ap (λ (x : ℕ). nest x (f .action)) (ap d (sym (eqb-true _ _ q)) ∙ h u)))
+      (λ q. rw q (h u)))
+      (s .1),
+)
+
+-- Exchanges lead to the serial order of a reducible, closed recording.
+pub order-exchanges : (guards ws : List ℕ) → length guards ≡ 1024 → Reducible guards ws → Closed ws
+    → Exchanges independent (framesOf ws) (framesOf (serialWords guards ws))
+order-exchanges guards ws long r c =
+    let k = inferred-is-some-choice guards ws long .0 r in
+    let good : Good (choose guards (k .0)) begin 0 (framesOf ws) =
+    subst (λ (x : Run). Good (choose guards (k .0)) x 0 (framesOf ws)) start-view
+    (pass-good (choose guards (k .0)) (choice-declared guards (k .0) (k .1)) (reducible-pass (choose guards (k .0)) ws (k .2))) in
+    subst (λ (l : List Frame). Exchanges independent (framesOf ws) l)
+    (sym (order-frames guards (reducible-pass guards ws r) ∙ serialOrder-alike guards (choose guards (k .0)) (choice-alike guards (k .0) (k .1)) (framesOf ws)))
+    (serial-exchanges (choose guards (k .0)) (framesOf ws) good (closed-frames guards ws r c))
+
+-- In it no other thread's frame is inside a block.
+pub order-contiguous : (guards ws : List ℕ) → Reducible guards ws → Closed ws → Contiguous (λ t. 0) (framesOf (serialWords guards ws))
+order-contiguous guards ws r c =
+    subst (λ (l : List Frame). Contiguous (λ t. 0) l) (sym (order-frames guards (reducible-pass guards ws r)))
+    (serial-contiguous (λ t. 0) (λ t. 0) (serialOrder guards (framesOf ws)) (λ u. refl) (serial-serial guards (framesOf ws) (closed-frames guards ws r c)))
+
+-- The third term.
+pub third-term : ThirdTerm
+third-term = (equal-is-exchanges, λ guards ws long r c. (order-exchanges guards ws long r c, order-contiguous guards ws r c))
+
+-- It has as many words as the recording.
+pub order-length : (guards ws : List ℕ) → length guards ≡ 1024 → Reducible guards ws → Closed ws → length (serialWords guards ws) ≡ length ws
+order-length guards ws long r c = sym (exchanged-length ws (serialWords guards ws) (order-exchanges guards ws long r c))
+
+-- words that all decode: in a list of both, from a place on, of a commit, of a unit, of a walk
+both-decode : (l r : List ℕ) → AllDecode l → AllDecode r → AllDecode (l ++ r)
+both-decode [] r a b = b
+both-decode (w ∷ l) r a b = (a .0, both-decode l r (a .1) b)
+
+drop-decode : (b : ℕ) (l : List ℕ) → AllDecode l → AllDecode (drop b l)
+drop-decode zero l a = a
+drop-decode (suc b) [] a = tt
+drop-decode (suc b) (w ∷ l) a = drop-decode b l (a .1)
+
+cond-decode : (b : Bool) (l r : List ℕ) → AllDecode l → AllDecode r → AllDecode (cond b l r)
+cond-decode true l r p q = p
+cond-decode false l r p q = q
+
+at-decode : (c : ℕ) (ks xs : List ℕ) → AllDecode xs → AllDecode (unitAt c ks xs)
+unfolding unitAt
+at-decode c [] xs a = tt
+at-decode c (k ∷ ks) [] a = tt
+at-decode c (k ∷ ks) (x ∷ xs) a =
+    cond-decode (eqb k c) (x ∷ unitAt c ks xs) (unitAt c ks xs) (a .0, at-decode c ks xs (a .1)) (at-decode c ks xs (a .1))
+
+from-decode : (n c : ℕ) (ks xs : List ℕ) → AllDecode xs → AllDecode (unitsFrom n c ks xs)
+unfolding unitsFrom
+from-decode zero c ks xs a = tt
+from-decode (suc n) c ks xs a = both-decode (unitAt c ks xs) (unitsFrom n (c + 1) ks xs) (at-decode c ks xs a) (from-decode n (c + 1) ks xs a)
+
+unit-decode : (t : Thread) (d : ℕ) (ws : List ℕ) → AllDecode ws → AllDecode (unitFrom t d ws)
+unfolding unitFrom
+unit-decode t d [] a = tt
+unit-decode t d (w ∷ ws) a = go (ownFrame (decodeWord w) t d) (λ e. unit-decode t e ws (a .1))
+  where
+    go : (o : Own) → ((e : ℕ) → AllDecode (unitFrom t e ws)) → AllDecode (onOwn o w d (λ e. unitFrom t e ws))
+    go own.Other ih = ih d
+    go (own.Mine e) ih = (a .0, cond-decode (eqb e 0) [] (unitFrom t e ws) tt (ih e))
+
+in-decode : (m : Mark) (all : List ℕ) (t : Thread) → AllDecode all → AllDecode (unitIn m all t)
+unfolding unitOf
+in-decode (At b) all t a = unit-decode t 0 (drop b all) (drop-decode b all a)
+in-decode Absent all t a = tt
+
+turn-decode : (o : Outcome) (v : Verdict) (m : Mark) (all : List ℕ) (t : Thread) (l : List ℕ) → AllDecode all → AllDecode l
+    → AllDecode (onJudged o v (unitIn m all t ++ l))
+turn-decode outcome.Next verdict.Reducible m all t l a b = both-decode (unitIn m all t) l (in-decode m all t a) b
+turn-decode outcome.Next (verdict.Violated v) m all t l a b = tt
+turn-decode (outcome.Bad r) v m all t l a b = tt
+
+frame-decode : (x : Decoded) (l : Frame → List ℕ) → ((f : Frame) → AllDecode (l f)) → AllDecode (onFrame x l)
+frame-decode (decoded.Frame f) l a = a f
+frame-decode (decoded.Bad r) l a = tt
+
+walk-decode : (guards all : List ℕ) (i : ℕ) (p : Point) (ws : List ℕ) → AllDecode all → AllDecode (walkFrom guards all i p ws)
+unfolding walkFrom
+walk-decode guards all i p [] a = tt
+walk-decode guards all i p (w ∷ ws) a =
+    frame-decode (decodeWord w) _
+    (λ f. turn-decode (stepFrame f (p .state) .outcome) (judgeFrame guards i f (p .state) (p .judging) .verdict)
+    (unitStart (phaseOfThread (f .thread) p) (settled (phaseOfThread (f .thread) (next guards i f p))) i) all (f .thread)
+    (walkFrom guards all (i + 1) (next guards i f p) ws) a (walk-decode guards all (i + 1) (next guards i f p) ws a))
+
+-- words that all decode are those of their frames
+words-back : (l : List ℕ) → AllDecode l → map encodeFrame (framesOf l) ≡ l
+words-back [] a = refl
+words-back (w ∷ l) a =
+    ap (λ (x : ℕ). x ∷ map encodeFrame (framesOf l)) (frame-word w (a .0)) ∙ ap (λ (x : List ℕ). w ∷ x) (words-back l (a .1))
+
+-- The code's walk of a reducible, closed recording gives its serial order.
+pub walk-is-order : (guards ws : List ℕ) → length guards ≡ 1024 → Reducible guards ws → Closed ws → walkWords guards ws ≡ serialWords guards ws
+walk-is-order guards ws long r c =
+    sym (words-back (walkWords guards ws) (walk-decode guards ws 0 _ ws all))
+    ∙ (ap (λ (l : List Frame). map encodeFrame l) same ∙ words-back (serialWords guards ws) (from-decode (length ws) 0 (commits guards ws) ws all))
+  where
+    p : Pass guards 0 start (startJudging fullSets) ws
+    p = reducible-pass guards ws r
+
+    all : AllDecode ws
+    all = sound-all-decode ws (judgement-sound guards fullSets ws verdict.Reducible r)
+
+    same : framesOf (walkWords guards ws) ≡ framesOf (serialWords guards ws)
+    same =
+        pass-walk guards ws (λ t. []) p refl (λ u ne. absurd (ne (ap (λ (x : Run). x .depth u) start-view)))
+        ∙ (ap (λ (x : Run). walk guards x (λ t. []) 0 (framesOf ws)) start-view
+        ∙ (serial-walk guards (framesOf ws) (closed-frames guards ws r c) ∙ sym (order-frames guards p)))
+
+-- the earlier of two places is absent where both are, and an open begin where no block is open
+earlier-absent : (x y : Mark) → earlier x y ≡ Absent → (x ≡ Absent) × (y ≡ Absent)
+earlier-absent Absent y e = (refl, e)
+earlier-absent (At x) Absent e = never (cc)
+earlier-absent (At x) (At y) e = go (ltb y x) e
+  where
+    go : (b : Bool) → cond b (At y) (At x) ≡ Absent → (At x ≡ Absent) × (At y ≡ Absent)
+    go true q = never (cc)
+    go false q = never (cc)
+
+open-absent : (d b : ℕ) → openBegin d b ≡ Absent → d ≡ 0
+open-absent d b e = by-test (eqb d 0) (λ q. eqb-true d 0 q) (λ q. let y : At b ≡ Absent = rw q at e in never (cc))
+
+none-open : (n k : ℕ) (m : Mark) (depths begins : List ℕ) → firstOpenFrom n k m depths begins ≡ Absent
+    → (m ≡ Absent) × ((u : ℕ) → k ≤ u → u < k + n → getD depths u 0 ≡ 0)
+unfolding firstOpenFrom
+none-open zero k m depths begins e = (e, λ u p q. absurd (omega arith))
+none-open (suc n) k m depths begins e =
+    let ih = none-open n (k + 1) (earlier m (openBegin (getD depths k 0) (getD begins k 0))) depths begins e in
+    let q = earlier-absent m (openBegin (getD depths k 0) (getD begins k 0)) (ih .0) in (
+      q .0,
+      λ u p l. by-test (eqb u k)
+          (λ y. ap (λ (x : ℕ). getD depths x 0) (eqb-true _ _ y) ∙ open-absent (getD depths k 0) (getD begins k 0) (q .1))
+          (λ y. ih .1 u (omega (arith, eqb-false u k y)) (omega arith)),
+    )
+
+open-none : (n k : ℕ) (depths begins : List ℕ) → ((u : ℕ) → getD depths u 0 ≡ 0) → firstOpenFrom n k Absent depths begins ≡ Absent
+unfolding firstOpenFrom
+open-none zero k depths begins h = refl
+open-none (suc n) k depths begins h = rw (h k) (open-none n (k + 1) depths begins h)
+
+-- A reducible recording is closed exactly if no begin is open at its end.
+module _ (guards ws : List ℕ) (r : Reducible guards ws) where
+  end-depth : (t : ℕ) → getD (endPoint guards ws .state .depths) t 0 ≡ getD (checkFrom 0 start ws .state .depths) t 0
+  end-depth t = ap (λ (x : State). getD (x .depths) t 0) (pass-end guards (reducible-pass guards ws r))
+
+  pub closed-open : firstOpen (endPoint guards ws) ≡ Absent → Closed ws
+  closed-open e t = by-test (ltb t 32)
+      (λ q. sym (end-depth t) ∙ none-open 32 0 Absent (endPoint guards ws .state .depths) (endPoint guards ws .judging .begins) e .1 t (omega arith) (omega (arith, ltb-true t 32 q)))
+      (λ q. let l : length (checkFrom 0 start ws .state .depths) ≡ 32 = pass-end-long guards (reducible-pass guards ws r) start-long in
+      List·getD-eq-default (checkFrom 0 start ws .state .depths) 0 (omega (arith, ltb-false t 32 q)))
+
+  pub open-closed : Closed ws → firstOpen (endPoint guards ws) ≡ Absent
+  open-closed c = open-none 32 0 (endPoint guards ws .state .depths) (endPoint guards ws .judging .begins) (λ u. end-depth u ∙ c u)

@@ -1,0 +1,331 @@
+-- A recording that the pass judges reducible, frame by frame: its run, its keys, its units and its walk are those of the run that the states
+-- stand for. In this order: the pass; the run does not go wrong; commits and the serial order; depths; units; the walk; the end.
+use Prim.Native.Nat.{ℕ, zero, suc, pred, _+_, _-_}
+use mathlib.Core.Path.{_≡_, refl, sym, ap, _∙_, subst}
+use mathlib.Core.Bool.{Bool, true, false, cond, not, _&&_, _||_}
+use mathlib.Core.List.{List, [], _∷_, _++_}
+use native.Mathlib.Omega.{arith}
+use native.Mathlib.Numerals.{add-one}
+use borrow.Author.Tests.{eqb-true, eqb-false, ne-eqb}
+use lib.Dec.{eqb}
+use lib.ListN.{length, getD, drop, replicate, length-map}
+use lib.Seq.{drop-drop}
+use Rattle.frame.proofs.Shared.{never}
+use Rattle.frame.proofs.Laws.{decoded-in-range}
+use Rattle.frame.specs.Frame.{decodeWord}
+use Rattle.frame.specs.declared.Thread.{Thread}
+use Rattle.frame.specs.declared.Frame.{Frame}
+use Rattle.frame.specs.declared.Action.{Action}
+use Rattle.frame.specs.declared.Action.the-variants as action
+use Rattle.frame.specs.declared.Decoded.the-variants as decoded
+use Rattle.reply.specs.Reply.{reducible}
+use Rattle.reply.specs.declared.Verdict.{Verdict}
+use Rattle.reply.specs.declared.Verdict.the-variants as verdict
+use Rattle.soundness.specs.Soundness.{State, stepped, stepFrame, checkFrom, start}
+use Rattle.soundness.specs.declared.Outcome.{Outcome}
+use Rattle.soundness.specs.declared.Outcome.the-variants as outcome
+use Rattle.judge.specs.Rules.{outside, before, after, Judging, judged, phaseOf, operationOf}
+use Rattle.pass.specs.Pass.{Ended, judgeFrame, judgeFrom, startJudging, fullSets}
+use Rattle.rules.proofs.Choice.{goes, goes-on}
+use Rattle.exchange.specs.Exchange.{frameOf, framesOf}
+use Rattle.serial.specs.Order.{Point, commitFrom, commitIn, commitsFrom, unitAt, unitsFrom, serialWords, settled}
+use Rattle.serial.specs.Walk.{depthBy, unitFrom, unitOf, unitStart, unitIn, walkFrom, endFrom, onOwn}
+use Rattle.serial.specs.declared.Own.the-variants as own
+use Rattle.reduction.proofs.Run as run
+use Rattle.reduction.proofs.Run.{threadOf, Run, begin, sound, Keyed, Good, onto, commitPlace, keyOf, keyed, nest, depthAt}
+use Rattle.reduction.proofs.Sort.{frames, bucket, buckets}
+use Rattle.reduction.proofs.Steps.{by-test}
+use Rattle.reduction.proofs.Serial.{serialOrder, frames-append, frames-keyed, depth-next}
+use Rattle.reduction.proofs.Units as units
+use Rattle.reduction.proofs.Units.{openFrom, emitted, walk}
+use Rattle.demand.proofs.View.{viewOf, Long, Declared, One, run-equal, one-frame}
+
+abbrev pub point : State → Judging → Point
+point s j = record { state = s; judging = j }
+
+-- A pass that goes on to the end, with what each frame does.
+pub data Pass (guards : List ℕ) : ℕ → State → Judging → List ℕ → Type 0 where
+  end : {i : ℕ} {s : State} {j : Judging} → Pass guards i s j []
+  on : {i : ℕ} {s : State} {j : Judging} {w : ℕ} {ws : List ℕ} {f : Frame} {n : State} {k : Judging} → decodeWord w ≡ decoded.Frame f
+      → stepFrame f s ≡ stepped outcome.Next n → judgeFrame guards i f s j ≡ judged verdict.Reducible k
+      → One i (f .thread .0) (operationOf guards (f .action)) s j n k → Pass guards (suc i) n k ws → Pass guards i s j (w ∷ ws)
+
+pub pass-made : (guards : List ℕ) (i : ℕ) (s : State) (j : Judging) (ws : List ℕ) → judgeFrom guards i s j ws .reply ≡ reducible → Long s j
+    → Pass guards i s j ws
+pass-made guards i s j [] e z = end
+pass-made guards i s j (w ∷ ws) e z =
+    let g = goes guards i s j w ws e in
+    let p : stepFrame (g .frame) s ≡ stepped outcome.Next (stepFrame (g .frame) s .state) =
+    ap (λ (x : Outcome). stepped x (stepFrame (g .frame) s .state)) (g .sound) in
+    let q : judgeFrame guards i (g .frame) s j ≡ judged verdict.Reducible (judgeFrame guards i (g .frame) s j .judging) =
+    ap (λ (x : Verdict). judged x (judgeFrame guards i (g .frame) s j .judging)) (g .right) in
+    let o = one-frame guards i (g .frame) s (stepFrame (g .frame) s .state) j (judgeFrame guards i (g .frame) s j .judging) z (decoded-in-range w (g .frame) (g .is)) p q in
+    let r : judgeFrom guards (i + 1) (stepFrame (g .frame) s .state) (judgeFrame guards i (g .frame) s j .judging) ws .reply ≡ reducible =
+    sym (ap (λ (x : Ended). x .reply) (goes-on guards i s j w ws g)) ∙ e in
+    on (g .is) p q o (pass-made guards (suc i) (stepFrame (g .frame) s .state) (judgeFrame guards i (g .frame) s j .judging) ws
+    (subst (λ (x : ℕ). judgeFrom guards x (stepFrame (g .frame) s .state) (judgeFrame guards i (g .frame) s j .judging) ws .reply ≡ reducible) (add-one i) r) (o .long))
+
+-- the start
+none-at : (n u : ℕ) → _≡_ {A = ℕ} (getD (replicate n 0) u 0) 0
+none-at zero u = refl
+none-at (suc n) zero = refl
+none-at (suc n) (suc u) = none-at n u
+
+pub start-long : Long start (startJudging fullSets)
+unfolding start startJudging
+start-long = record { owners-long = refl; depths-long = refl; begins-long = refl; commits-long = refl }
+
+pub start-view : viewOf start (startJudging fullSets) ≡ begin
+unfolding start startJudging
+start-view = run-equal (λ m. none-at 64 m) (λ t. none-at 32 t) (λ t. rw (none-at 32 t))
+
+-- the phases
+settled-view : (s : State) (j : Judging) (t : ℕ)
+    → settled (phaseOf (getD (s .depths) t 0) (getD (j .begins) t 0) (getD (j .commits) t 0)) ≡ run.settled (viewOf s j) t
+settled-view s j t = go (eqb (getD (s .depths) t 0) 0) (eqb (getD (j .commits) t 0) 0) refl
+  where
+    go : (p q : Bool) → eqb (getD (j .commits) t 0) 0 ≡ q
+        → settled (cond p outside (cond q (before (getD (j .begins) t 0)) (after (getD (j .begins) t 0) (getD (j .commits) t 0 - 1))))
+        ≡ (p || not (eqb (cond p 0 (getD (j .commits) t 0)) 0))
+    go true q e = refl
+    go false true e = rw e
+    go false false e = rw e
+
+pub less-one : (c : ℕ) → c - 1 ≡ pred c
+less-one c = omega arith
+
+commit-in : (d b c x : ℕ) → commitIn (phaseOf d b c) x ≡ cond (eqb (cond (eqb d 0) 0 c) 0) x (pred (cond (eqb d 0) 0 c))
+commit-in d b c x = go (eqb d 0) (eqb c 0) refl
+  where
+    go : (p q : Bool) → eqb c 0 ≡ q → commitIn (cond p outside (cond q (before b) (after b (c - 1)))) x ≡ cond (eqb (cond p 0 c) 0) x (pred (cond p 0 c))
+    go true q e = refl
+    go false true e = rw e
+    go false false e = rw e (less-one c)
+
+frames-first : (w : ℕ) (f : Frame) (ws : List ℕ) → decodeWord w ≡ decoded.Frame f → framesOf (w ∷ ws) ≡ f ∷ framesOf ws
+frames-first w f ws d = rw d
+
+abbrev keys : List (Keyed Frame) → List ℕ
+keys [] = []
+keys (x ∷ l) = x .key ∷ keys l
+
+-- the words of a commit
+units-at : (c : ℕ) (k : List (Keyed Frame)) (xs : List ℕ) → framesOf xs ≡ frames k → framesOf (unitAt c (keys k) xs) ≡ frames (bucket c k)
+unfolding unitAt
+units-at c [] xs e = refl
+units-at c (x ∷ k) [] e = never (cc)
+units-at c (x ∷ k) (w ∷ xs) e = go (eqb (x .key) c) (units-at c k xs (cc))
+  where
+    h : frameOf w ≡ x .frame
+    h = cc
+
+    go : (b : Bool) → framesOf (unitAt c (keys k) xs) ≡ frames (bucket c k)
+        → framesOf (cond b (w ∷ unitAt c (keys k) xs) (unitAt c (keys k) xs)) ≡ frames (cond b (x ∷ bucket c k) (bucket c k))
+    go true ih = ap (λ (y : Frame). y ∷ framesOf (unitAt c (keys k) xs)) h ∙ ap (λ (y : List Frame). x .frame ∷ y) ih
+    go false ih = ih
+
+frames-both : (l r : List ℕ) → framesOf (l ++ r) ≡ framesOf l ++ framesOf r
+frames-both [] r = refl
+frames-both (w ∷ l) r = ap (λ (x : List Frame). frameOf w ∷ x) (frames-both l r)
+
+units-from : (m c : ℕ) (k : List (Keyed Frame)) (xs : List ℕ) → framesOf xs ≡ frames k → framesOf (unitsFrom m c (keys k) xs) ≡ frames (buckets m c k)
+unfolding unitsFrom
+units-from zero c k xs e = refl
+units-from (suc m) c k xs e =
+    rw (add-one c, frames-both (unitAt c (keys k) xs) (unitsFrom m (suc c) (keys k) xs), frames-append (bucket c k) (buckets m (suc c) k))
+    (rw (units-at c k xs e, units-from m (suc c) k xs e))
+
+module _ (guards : List ℕ) where
+  -- The run of a reducible recording does not go wrong, where no guard is inferred.
+  pub pass-good : ((a : Action) → Declared (operationOf guards a)) → {i : ℕ} {s : State} {j : Judging} {ws : List ℕ} → Pass guards i s j ws
+      → Good guards (viewOf s j) i (framesOf ws)
+  pass-good h end = tt
+  pass-good h (on {i = i} {ws = ws} {f = f} d g a o rest) =
+      rw d (o .passes, o .rightly (h (f .action)), subst (λ (x : Run). Good guards x (suc i) (framesOf ws)) (o .run) (pass-good h rest))
+
+  -- the commit of a thread's unit
+  place : (t : Thread) {i : ℕ} {s : State} {j : Judging} {ws : List ℕ} → Pass guards i s j ws
+      → commitFrom guards t i (point s j) ws ≡ commitPlace guards (t .0) (viewOf s j) i (framesOf ws)
+  unfolding commitFrom
+  place t end = refl
+  place t (on {i = i} {ws = ws} {f = f} {n = n} {k = k} d g a o rest) =
+      rw (d, g, a, add-one i)
+      (ap (λ (b : Bool). cond (eqb (threadOf f) (t .0) && b) i (commitFrom guards t (suc i) (point n k) ws)) (settled-view n k (t .0))
+      ∙ (ap (λ (m : ℕ). cond (eqb (threadOf f) (t .0) && run.settled (viewOf n k) (t .0)) i m) (place t rest)
+      ∙ ap (λ (x : Run). cond (eqb (threadOf f) (t .0) && run.settled x (t .0)) i (commitPlace guards (t .0) x (suc i) (framesOf ws))) (o .run)))
+
+  -- The commits are the keys.
+  pub pass-keys : {i : ℕ} {s : State} {j : Judging} {ws : List ℕ} → Pass guards i s j ws
+      → commitsFrom guards i (point s j) ws ≡ keys (keyed guards (viewOf s j) i (framesOf ws))
+  unfolding commitsFrom
+  pass-keys end = refl
+  pass-keys (on {i = i} {s = s} {j = j} {w = w} {ws = ws} {f = f} {n = n} {k = k} d g a o rest) =
+      rw (d, g, a, add-one i)
+      (ap (λ (x : ℕ). x ∷ commitsFrom guards (suc i) (point n k) ws) first
+      ∙ (ap (λ (x : List ℕ). keyOf guards (viewOf s j) i f (framesOf ws) ∷ x) (pass-keys rest)
+      ∙ ap (λ (x : Run). keyOf guards (viewOf s j) i f (framesOf ws) ∷ keys (keyed guards x (suc i) (framesOf ws))) (o .run)))
+    where
+      first : commitIn (phaseOf (getD (s .depths) (threadOf f) 0) (getD (j .begins) (threadOf f) 0) (getD (j .commits) (threadOf f) 0))
+          (commitFrom guards (f .thread) i (point s j) (w ∷ ws)) ≡ keyOf guards (viewOf s j) i f (framesOf ws)
+      first =
+          commit-in (getD (s .depths) (threadOf f) 0) (getD (j .begins) (threadOf f) 0) (getD (j .commits) (threadOf f) 0)
+          (commitFrom guards (f .thread) i (point s j) (w ∷ ws))
+          ∙ ap (λ (x : ℕ). cond (eqb (viewOf s j .committed (threadOf f)) 0) x (pred (viewOf s j .committed (threadOf f))))
+          (place (f .thread) (on d g a o rest) ∙ ap (λ (l : List Frame). commitPlace guards (threadOf f) (viewOf s j) i l) (frames-first w f ws d))
+
+  -- The serial order of the words is that of the frames.
+  pub order-frames : {ws : List ℕ} → Pass guards 0 start (startJudging fullSets) ws → framesOf (serialWords guards ws) ≡ serialOrder guards (framesOf ws)
+  order-frames {ws} p =
+      ap (λ (x : List ℕ). framesOf (unitsFrom (length ws) 0 x ws))
+      (pass-keys p ∙ ap (λ (x : Run). keys (keyed guards x 0 (framesOf ws))) start-view)
+      ∙ (units-from (length ws) 0 (keyed guards begin 0 (framesOf ws)) ws (sym (frames-keyed guards begin 0 (framesOf ws)))
+      ∙ ap (λ (m : ℕ). frames (buckets m 0 (keyed guards begin 0 (framesOf ws)))) (sym (length-map ws frameOf)))
+
+  -- a thread's depth after a frame
+  depth-now : (t : ℕ) {i : ℕ} {s n : State} {j k : Judging} (f : Frame) → One i (threadOf f) (operationOf guards (f .action)) s j n k
+      → getD (n .depths) t 0 ≡ cond (eqb (threadOf f) t) (nest (getD (s .depths) t 0) (f .action)) (getD (s .depths) t 0)
+  depth-now t {i} {s} {n} {j} {k} f o = ap (λ (x : Run). x .depth t) (o .run) ∙ depth-next guards t (viewOf s j) i f
+
+  -- The depths at the end.
+  pub pass-depth : (t : ℕ) {i : ℕ} {s : State} {j : Judging} {ws : List ℕ} → Pass guards i s j ws
+      → depthAt t (getD (s .depths) t 0) (framesOf ws) ≡ getD (checkFrom i s ws .state .depths) t 0
+  unfolding checkFrom
+  pass-depth t end = refl
+  pass-depth t (on {i = i} {ws = ws} {f = f} d g a o rest) =
+      rw (d, g, add-one i) (ap (λ (x : ℕ). depthAt t x (framesOf ws)) (sym (depth-now t f o)) ∙ pass-depth t rest)
+
+  -- a sound frame's depth is the code's
+  depth-by : (s : State) (j : Judging) (t : ℕ) (a : Action) → sound (viewOf s j) t (operationOf guards a) ≡ true
+      → depthBy a (getD (s .depths) t 0) ≡ nest (getD (s .depths) t 0) a
+  depth-by s j t (action.Acquire l) e = refl
+  depth-by s j t (action.Release l) e = refl
+  depth-by s j t (action.Read v) e = refl
+  depth-by s j t (action.Write v) e = refl
+  depth-by s j t action.Begin e = rw e (add-one (getD (s .depths) t 0))
+  depth-by s j t action.End e = by-test (eqb (getD (s .depths) t 0) 0)
+      (λ q. rw q (sym (ap pred (eqb-true (getD (s .depths) t 0) 0 q)))) (λ q. rw q (less-one (getD (s .depths) t 0)))
+
+  -- The unit of a thread, from a place at which its frames are listed.
+  pub unit-frames : (t : Thread) {i : ℕ} {s : State} {j : Judging} {ws : List ℕ} → Pass guards i s j ws
+      → framesOf (unitFrom t (getD (s .depths) (t .0) 0) ws) ≡ units.unitFrom (t .0) (getD (s .depths) (t .0) 0) (framesOf ws)
+  unfolding unitFrom
+  unit-frames t end = refl
+  unit-frames t (on {s = s} {j = j} {w = w} {ws = ws} {f = f} {n = n} d g a o rest) =
+      rw d (go (eqb (threadOf f) (t .0)) refl (unit-frames t rest))
+    where
+      m : ℕ
+      m = getD (s .depths) (t .0) 0
+
+      after-own : eqb (threadOf f) (t .0) ≡ true → getD (n .depths) (t .0) 0 ≡ nest m (f .action)
+      after-own e = depth-now (t .0) f o ∙ rw e
+
+      after-other : eqb (threadOf f) (t .0) ≡ false → getD (n .depths) (t .0) 0 ≡ m
+      after-other e = depth-now (t .0) f o ∙ rw e
+
+      by : eqb (threadOf f) (t .0) ≡ true → depthBy (f .action) m ≡ nest m (f .action)
+      by e = depth-by s j (t .0) (f .action) (subst (λ (x : ℕ). sound (viewOf s j) x (operationOf guards (f .action)) ≡ true) (eqb-true _ _ e) (o .passes))
+
+      more : (b : Bool) (x : ℕ) → framesOf (unitFrom t x ws) ≡ units.unitFrom (t .0) x (framesOf ws)
+          → framesOf (w ∷ cond b [] (unitFrom t x ws)) ≡ f ∷ cond b [] (units.unitFrom (t .0) x (framesOf ws))
+      more true x ih = frames-first w f [] d
+      more false x ih = frames-first w f (unitFrom t x ws) d ∙ ap (λ (l : List Frame). f ∷ l) ih
+
+      go : (b : Bool) → eqb (threadOf f) (t .0) ≡ b
+          → framesOf (unitFrom t (getD (n .depths) (t .0) 0) ws) ≡ units.unitFrom (t .0) (getD (n .depths) (t .0) 0) (framesOf ws)
+          → framesOf (onOwn (cond b (own.Mine (depthBy (f .action) m)) own.Other) w m (λ e. unitFrom t e ws))
+          ≡ cond b (f ∷ cond (eqb (nest m (f .action)) 0) [] (units.unitFrom (t .0) (nest m (f .action)) (framesOf ws)))
+          (units.unitFrom (t .0) m (framesOf ws))
+      go true e ih =
+          ap (λ (x : ℕ). framesOf (w ∷ cond (eqb x 0) [] (unitFrom t x ws))) (by e)
+          ∙ more (eqb (nest m (f .action)) 0) (nest m (f .action))
+          (subst (λ (x : ℕ). framesOf (unitFrom t x ws) ≡ units.unitFrom (t .0) x (framesOf ws)) (after-own e) ih)
+      go false e ih = subst (λ (x : ℕ). framesOf (unitFrom t x ws) ≡ units.unitFrom (t .0) x (framesOf ws)) (after-other e) ih
+
+  -- What the code has of the units of the blocks that are open is what the walk over frames has of them.
+  abbrev pub Opens : List ℕ → State → Judging → (ℕ → List Frame) → Type 0
+  Opens all s j o =
+      (u : ℕ) → (getD (s .depths) u 0 ≡ 0 → ⊥) → framesOf (unitOf all (getD (j .begins) u 0) (record { 0 = u })) ≡ units.unitFrom u 0 (o u)
+
+  -- a unit that starts here
+  unit-starts : (u : ℕ) (all : List ℕ) {i : ℕ} {s : State} {j : Judging} {ws : List ℕ} → Pass guards i s j ws → drop i all ≡ ws
+      → getD (s .depths) u 0 ≡ 0 → framesOf (unitOf all i (record { 0 = u })) ≡ units.unitFrom u 0 (framesOf ws)
+  unfolding unitOf
+  unit-starts u all {ws = ws} p e z =
+      ap (λ (l : List ℕ). framesOf (unitFrom (record { 0 = u }) 0 l)) e
+      ∙ subst (λ (x : ℕ). framesOf (unitFrom (record { 0 = u }) x ws) ≡ units.unitFrom u x (framesOf ws)) z (unit-frames (record { 0 = u }) p)
+
+  opens-next : (all : List ℕ) (q : ℕ → List Frame) {i w : ℕ} {s n : State} {j k : Judging} {ws : List ℕ} (f : Frame)
+      → decodeWord w ≡ decoded.Frame f → One i (threadOf f) (operationOf guards (f .action)) s j n k → Pass guards i s j (w ∷ ws)
+      → drop i all ≡ w ∷ ws → Opens all s j q → Opens all n k (openFrom (viewOf s j) q f (framesOf ws))
+  opens-next all q {i} {w} {s} {n} {j} {k} {ws} f d o p e h u ne =
+      ap (λ (b : ℕ). framesOf (unitOf all b (record { 0 = u }))) (o .begun u ne)
+      ∙ go (eqb u (threadOf f)) (eqb (getD (s .depths) (threadOf f) 0) 0) refl refl
+    where
+      others : eqb u (threadOf f) ≡ false → getD (s .depths) u 0 ≡ 0 → ⊥
+      others a z = ne (depth-now u f o ∙ (rw (ne-eqb (threadOf f) u (λ y. eqb-false _ _ a (sym y))) z))
+
+      go : (a b : Bool) → eqb u (threadOf f) ≡ a → eqb (getD (s .depths) (threadOf f) 0) 0 ≡ b
+          → framesOf (unitOf all (cond (a && b) i (getD (j .begins) u 0)) (record { 0 = u }))
+          ≡ units.unitFrom u 0 (cond (a && b) (f ∷ framesOf ws) (q u))
+      go true true a b =
+          unit-starts u all p e (ap (λ (x : ℕ). getD (s .depths) x 0) (eqb-true _ _ a) ∙ eqb-true _ _ b)
+          ∙ ap (λ (l : List Frame). units.unitFrom u 0 l) (frames-first w f ws d)
+      go true false a b = h u (λ z. eqb-false _ _ b (ap (λ (x : ℕ). getD (s .depths) x 0) (sym (eqb-true _ _ a)) ∙ z))
+      go false b a c = h u (others a)
+
+  drop-next : (all : List ℕ) (i w : ℕ) (ws : List ℕ) → drop i all ≡ w ∷ ws → drop (suc i) all ≡ ws
+  drop-next all i w ws e = ap (λ (m : ℕ). drop m all) (sym (add-one i)) ∙ (sym (drop-drop 1 i all) ∙ ap (λ (l : List ℕ). drop 1 l) e)
+
+  -- The walk over the words is the walk over the frames.
+  pub pass-walk : (all : List ℕ) (q : ℕ → List Frame) {i : ℕ} {s : State} {j : Judging} {ws : List ℕ} → Pass guards i s j ws → drop i all ≡ ws
+      → Opens all s j q → framesOf (walkFrom guards all i (point s j) ws) ≡ walk guards (viewOf s j) q i (framesOf ws)
+  unfolding walkFrom
+  pass-walk all q end e h = refl
+  pass-walk all q (on {i = i} {s = s} {j = j} {w = w} {ws = ws} {f = f} {n = n} {k = k} d g a o rest) e h =
+      rw (d, g, a, add-one i)
+      (frames-both (unitIn (unitStart (phaseOf m b c) (settled (phaseOf (getD (n .depths) t 0) (getD (k .begins) t 0) (getD (k .commits) t 0))) i) all (f .thread))
+      (walkFrom guards all (suc i) (point n k) ws)
+      ∙ (ap (λ (x : List Frame). x ++ framesOf (walkFrom guards all (suc i) (point n k) ws)) here
+      ∙ ap (λ (x : List Frame). emitted guards (viewOf s j) q i f (framesOf ws) ++ x)
+      (pass-walk all (openFrom (viewOf s j) q f (framesOf ws)) rest (drop-next all i w ws e) (opens-next all q f d o (on d g a o rest) e h)
+      ∙ ap (λ (x : Run). walk guards x (openFrom (viewOf s j) q f (framesOf ws)) (suc i) (framesOf ws)) (o .run))))
+    where
+      t : ℕ
+      t = threadOf f
+
+      m : ℕ
+      m = getD (s .depths) (threadOf f) 0
+
+      b : ℕ
+      b = getD (j .begins) (threadOf f) 0
+
+      c : ℕ
+      c = getD (j .commits) (threadOf f) 0
+
+      go : (x y z : Bool) → eqb m 0 ≡ x → eqb c 0 ≡ y
+          → framesOf (unitIn (unitStart (cond x outside (cond y (before b) (after b (c - 1)))) z i) all (f .thread))
+          ≡ cond (eqb (cond x 0 c) 0 && z) (units.unitFrom t 0 (cond x (f ∷ framesOf ws) (q t))) []
+      go true y true ex ey =
+          unit-starts t all (on d g a o rest) e (eqb-true _ _ ex) ∙ ap (λ (l : List Frame). units.unitFrom t 0 l) (frames-first w f ws d)
+      go true y false ex ey = refl
+      go false true true ex ey = rw ey (h t (eqb-false _ _ ex))
+      go false true false ex ey = rw ey
+      go false false z ex ey = rw ey
+
+      here : framesOf (unitIn (unitStart (phaseOf m b c) (settled (phaseOf (getD (n .depths) t 0) (getD (k .begins) t 0) (getD (k .commits) t 0))) i) all (f .thread))
+          ≡ emitted guards (viewOf s j) q i f (framesOf ws)
+      here =
+          ap (λ (x : Bool). framesOf (unitIn (unitStart (phaseOf m b c) x i) all (f .thread)))
+          (settled-view n k t ∙ ap (λ (x : Run). run.settled x t) (o .run))
+          ∙ go (eqb m 0) (eqb c 0) (run.settled (onto guards (viewOf s j) i f) t) refl refl
+
+  -- The end of the walk is that of the check.
+  pub pass-end : {i : ℕ} {s : State} {j : Judging} {ws : List ℕ} → Pass guards i s j ws → endFrom guards i (point s j) ws .state ≡ checkFrom i s ws .state
+  unfolding endFrom checkFrom
+  pass-end end = refl
+  pass-end (on {i = i} d g a o rest) = rw (d, g, a, add-one i) (pass-end rest)
+
+  pub pass-end-long : {i : ℕ} {s : State} {j : Judging} {ws : List ℕ} → Pass guards i s j ws → Long s j → length (checkFrom i s ws .state .depths) ≡ 32
+  unfolding checkFrom
+  pass-end-long end z = z .depths-long
+  pass-end-long (on {i = i} d g a o rest) z = rw (d, g, add-one i) (pass-end-long rest (o .long))

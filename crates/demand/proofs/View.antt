@@ -1,0 +1,361 @@
+-- The run that a state of the judging pass stands for, and one frame: where the pass goes on, its next state stands for the run's next.
+-- In this order: the run of a state, entries put into it, one operation that does not go wrong, one frame.
+use Prim.Native.Nat.{ℕ, suc, pred, _+_, _-_, _<_}
+use mathlib.Core.Path.{_≡_, refl, sym, ap, _∙_, fun-ext}
+use mathlib.Core.Bool.{Bool, true, false, cond, _&&_}
+use mathlib.Core.List.{List}
+use native.Mathlib.Omega.{arith}
+use native.Mathlib.Numerals.{add-one}
+use borrow.Author.Tests.{eqb-true, eqb-false, eq-eqb, ne-eqb, leb-true, leb-false, lt-ltb}
+use lib.Bits.{bitAnd}
+use lib.Dec.{eqb, leb, ltb}
+use lib.ListN.{length, getD, set, length-set}
+use Rattle.frame.proofs.Shared.{never}
+use Rattle.frame.specs.Frame.{ObjectInRange, InRange}
+use Rattle.frame.specs.declared.Thread.{Thread}
+use Rattle.frame.specs.declared.Lock.{Lock}
+use Rattle.frame.specs.declared.Variable.{Variable}
+use Rattle.frame.specs.declared.Frame.{Frame}
+use Rattle.frame.specs.declared.Action.{Action}
+use Rattle.frame.specs.declared.Action.the-variants as action
+use Rattle.guards.specs.Guards.{guardOf}
+use Rattle.guards.specs.declared.Guard.{Guard}
+use Rattle.guards.specs.declared.Guard.the-variants as guard
+use Rattle.reply.specs.declared.Violation.{Violation}
+use Rattle.reply.specs.declared.Verdict.the-variants as verdict
+use Rattle.soundness.specs.Soundness.{State, Stepped, stateOf, stepped, stepAction, stepFrame}
+use Rattle.soundness.specs.declared.Outcome.the-variants as outcome
+use Rattle.soundness.proofs.Laws.{passed, spared}
+use Rattle.judge.specs.Rules.{outside, before, after, Judging, judgingOf, Judged, judged, contains, committed, withCommit, acquireIn, unprotectedIn, guardedAccess, operationOf, judgeOperation}
+use Rattle.judge.specs.Held.{heldSet}
+use Rattle.judge.specs.declared.Operation.{Operation}
+use Rattle.judge.specs.declared.Operation.the-variants.{Acquire, Release, Protected, Unprotected, Inferred, Begin, End}
+use Rattle.pass.specs.Pass.{judgeFrame}
+use Rattle.rules.proofs.Store.{held-is, getD-set}
+use Rattle.reduction.proofs.Run.{Run, put, sound, right, afterwards, mark}
+use Rattle.reduction.proofs.Steps.{put-cases}
+
+-- The code forgets a commit at the next outermost begin, the run at the outermost end: outside a block the commit counts as none.
+abbrev pub viewOf : State → Judging → Run
+viewOf s j = record {
+  owner = λ m. getD (s .owners) m 0;
+  depth = λ t. getD (s .depths) t 0;
+  committed = λ t. cond (eqb (getD (s .depths) t 0) 0) 0 (getD (j .commits) t 0);
+}
+
+-- The lists have an entry for each lock and each thread.
+pub record Long (s : State) (j : Judging) : Type 0 where
+  pub owners-long : length (s .owners) ≡ 64
+  pub depths-long : length (s .depths) ≡ 32
+  pub begins-long : length (j .begins) ≡ 32
+  pub commits-long : length (j .commits) ≡ 32
+
+-- The operation is under no inferred guard.
+abbrev pub Declared : Operation → Type 0
+Declared (Acquire l) = Unit {0}
+Declared (Release l) = Unit {0}
+Declared (Protected m) = Unit {0}
+Declared Unprotected = Unit {0}
+Declared (Inferred v) = ⊥
+Declared Begin = Unit {0}
+Declared End = Unit {0}
+
+-- What an operation of thread t at place i does that leads from s and j to n and k.
+pub record One (i t : ℕ) (o : Operation) (s : State) (j : Judging) (n : State) (k : Judging) : Type 0 where
+  pub run : viewOf n k ≡ afterwards (viewOf s j) i t o
+  pub passes : sound (viewOf s j) t o ≡ true
+  pub rightly : Declared o → right (viewOf s j) t o ≡ true
+  pub long : Long n k
+  pub begun : (u : ℕ) → (getD (n .depths) u 0 ≡ 0 → ⊥)
+      → getD (k .begins) u 0 ≡ cond (eqb u t && eqb (getD (s .depths) t 0) 0) i (getD (j .begins) u 0)
+
+-- two runs with the same entries
+pub run-equal : {o o′ d d′ c c′ : ℕ → ℕ} → ((m : ℕ) → o m ≡ o′ m) → ((u : ℕ) → d u ≡ d′ u) → ((u : ℕ) → c u ≡ c′ u)
+    → _≡_ {A = Run} (record { owner = o; depth = d; committed = c }) (record { owner = o′; depth = d′; committed = c′ })
+run-equal {o} {o′} {d} {d′} {c} {c′} p q r =
+    ap (λ (x : ℕ → ℕ). record { owner = x; depth = d; committed = c }) (fun-ext p)
+    ∙ (ap (λ (x : ℕ → ℕ). record { owner = o′; depth = x; committed = c }) (fun-ext q)
+    ∙ ap (λ (x : ℕ → ℕ). record { owner = o′; depth = d′; committed = x }) (fun-ext r))
+
+-- an entry put back
+put-back : (f : ℕ → ℕ) (t u : ℕ) → f u ≡ put f t (f t) u
+put-back f t u = put-cases (λ v. f u ≡ v) f t (f t) u (λ e. ap f e) (λ e. refl)
+
+-- a thread's entries put into a view
+view-put : (s n : State) (j k : Judging) (t d c m : ℕ) (o : ℕ → ℕ)
+    → ((x : ℕ) → getD (n .owners) x 0 ≡ o x)
+    → ((u : ℕ) → getD (n .depths) u 0 ≡ put (λ x. getD (s .depths) x 0) t d u)
+    → ((u : ℕ) → getD (k .commits) u 0 ≡ put (λ x. getD (j .commits) x 0) t c u)
+    → cond (eqb d 0) 0 c ≡ m
+    → viewOf n k ≡ record { owner = o; depth = put (viewOf s j .depth) t d; committed = put (viewOf s j .committed) t m }
+view-put s n j k t d c m o p q r e = run-equal p q (λ u. rw (q u, r u) (go u (eqb u t)))
+  where
+    go : (u : ℕ) (b : Bool)
+        → cond (eqb (cond b d (getD (s .depths) u 0)) 0) 0 (cond b c (getD (j .commits) u 0))
+        ≡ cond b m (cond (eqb (getD (s .depths) u 0) 0) 0 (getD (j .commits) u 0))
+    go u true = e
+    go u false = refl
+
+-- which way a test went where the operation does not go wrong
+then-right : (b : Bool) (x y k : Judging) (v : Violation)
+    → cond b (judged verdict.Reducible x) (judged (verdict.Violated v) y) ≡ judged verdict.Reducible k → (b ≡ true) × (k ≡ x)
+then-right true x y k v e = (refl, sym (ap (λ (x : Judged). x .judging) e))
+then-right false x y k v e =
+    let q : verdict.Violated v ≡ verdict.Reducible = ap (λ (x : Judged). x .verdict) e in never (cc)
+
+else-right : (b : Bool) (x y k : Judging) (v : Violation)
+    → cond b (judged (verdict.Violated v) y) (judged verdict.Reducible x) ≡ judged verdict.Reducible k → (b ≡ false) × (k ≡ x)
+else-right true x y k v e =
+    let q : verdict.Violated v ≡ verdict.Reducible = ap (λ (x : Judged). x .verdict) e in never (cc)
+else-right false x y k v e = (refl, sym (ap (λ (x : Judged). x .judging) e))
+
+-- an acquire and an unprotected access do not go wrong outside and before commit
+acquire-right : (b c i : ℕ) (t : Thread) (l : Lock) (j k : Judging) (p q : Bool) → eqb c 0 ≡ q
+    → acquireIn (cond p outside (cond q (before b) (after b (c - 1)))) i t l j ≡ judged verdict.Reducible k
+    → (eqb (cond p 0 c) 0 ≡ true) × (k ≡ j)
+acquire-right b c i t l j k true q f e = (refl, sym (ap (λ (x : Judged). x .judging) e))
+acquire-right b c i t l j k false true f e = (f, sym (ap (λ (x : Judged). x .judging) e))
+acquire-right b c i t l j k false false f e =
+    let z : acquireIn (after b (c - 1)) i t l j .verdict ≡ verdict.Reducible = ap (λ (x : Judged). x .verdict) e in never (cc)
+
+unprotected-right : (b c i : ℕ) (t : Thread) (n j k : Judging) (p q : Bool) → eqb c 0 ≡ q
+    → unprotectedIn (cond p outside (cond q (before b) (after b (c - 1)))) i t n j ≡ judged verdict.Reducible k
+    → (eqb (cond p 0 c) 0 ≡ true) × (k ≡ n)
+unprotected-right b c i t n j k true q f e = (refl, sym (ap (λ (x : Judged). x .judging) e))
+unprotected-right b c i t n j k false true f e = (f, sym (ap (λ (x : Judged). x .judging) e))
+unprotected-right b c i t n j k false false f e =
+    let z : unprotectedIn (after b (c - 1)) i t n j .verdict ≡ verdict.Reducible = ap (λ (x : Judged). x .verdict) e in never (cc)
+
+-- a thread's commit after a frame that commits its block
+mark-view : (d c i : ℕ) → cond (eqb d 0) 0 (committed d c i) ≡ mark d (cond (eqb d 0) 0 c) i Unprotected
+mark-view d c i = go (eqb d 0)
+  where
+    go : (b : Bool) → cond b 0 (cond b c (cond (eqb c 0) (i + 1) c)) ≡ cond b (cond b 0 c) (cond (eqb (cond b 0 c) 0) (suc i) (cond b 0 c))
+    go true = refl
+    go false = rw add-one
+
+module _ (s : State) (j : Judging) (z : Long s j) (i : ℕ) (t : Thread) (small : t .0 < 32) where
+  -- the thread's depth and commit
+  abbrev deep : ℕ
+  deep = getD (s .depths) (t .0) 0
+
+  abbrev done : ℕ
+  done = getD (j .commits) (t .0) 0
+
+  -- the begins stay where no block is entered
+  begins-stay : (n : State) → ((u : ℕ) → getD (s .depths) u 0 ≡ 0 → getD (n .depths) u 0 ≡ 0)
+      → (u : ℕ) → (getD (n .depths) u 0 ≡ 0 → ⊥)
+      → getD (j .begins) u 0 ≡ cond (eqb u (t .0) && eqb (getD (s .depths) (t .0) 0) 0) i (getD (j .begins) u 0)
+  begins-stay n h u ne = go (eqb u (t .0)) (eqb (getD (s .depths) (t .0) 0) 0) refl refl
+    where
+      go : (a b : Bool) → eqb u (t .0) ≡ a → eqb (getD (s .depths) (t .0) 0) 0 ≡ b
+          → getD (j .begins) u 0 ≡ cond (a && b) i (getD (j .begins) u 0)
+      go true true p q = absurd (ne (h u (ap (λ (x : ℕ). getD (s .depths) x 0) (eqb-true _ _ p) ∙ eqb-true _ _ q)))
+      go true false p q = refl
+      go false b p q = refl
+
+  set-depth : (d u : ℕ) → getD (set (s .depths) (t .0) d) u 0 ≡ put (λ x. getD (s .depths) x 0) (t .0) d u
+  set-depth d u = getD-set (s .depths) (t .0) d u (omega (arith, z .depths-long))
+
+  set-commit : (c u : ℕ) → getD (set (j .commits) (t .0) c) u 0 ≡ put (λ x. getD (j .commits) x 0) (t .0) c u
+  set-commit c u = getD-set (j .commits) (t .0) c u (omega (arith, z .commits-long))
+
+  same-depth : (u : ℕ) → getD (s .depths) u 0 ≡ put (λ x. getD (s .depths) x 0) (t .0) deep u
+  same-depth u = put-back (λ x. getD (s .depths) x 0) (t .0) u
+
+  same-commit : (u : ℕ) → getD (j .commits) u 0 ≡ put (λ x. getD (j .commits) x 0) (t .0) done u
+  same-commit u = put-back (λ x. getD (j .commits) x 0) (t .0) u
+
+  -- the locks after an acquire and a release
+  set-owner : (l v x : ℕ) → l < 64 → getD (set (s .owners) l v) x 0 ≡ put (λ m. getD (s .owners) m 0) l v x
+  set-owner l v x h = getD-set (s .owners) l v x (omega (arith, z .owners-long))
+
+  long-owner : (l v : ℕ) → Long (stateOf (set (s .owners) l v) (s .depths)) j
+  long-owner l v = record {
+    owners-long = length-set (s .owners) l v ∙ z .owners-long;
+    depths-long = z .depths-long;
+    begins-long = z .begins-long;
+    commits-long = z .commits-long;
+  }
+
+  long-commit : (n : State) (c : ℕ) → Long n j → Long n (withCommit t c j)
+  long-commit n c y = record {
+    owners-long = y .owners-long;
+    depths-long = y .depths-long;
+    begins-long = y .begins-long;
+    commits-long = length-set (j .commits) (t .0) c ∙ y .commits-long;
+  }
+
+  long-depth : (d : ℕ) → Long (stateOf (s .owners) (set (s .depths) (t .0) d)) j
+  long-depth d = record {
+    owners-long = z .owners-long;
+    depths-long = length-set (s .depths) (t .0) d ∙ z .depths-long;
+    begins-long = z .begins-long;
+    commits-long = z .commits-long;
+  }
+
+  -- an acquire
+  one-acquire : (l : Lock) → l .0 < 64 → eqb (getD (s .owners) (l .0) 0) 0 ≡ true
+      → eqb (viewOf s j .committed (t .0)) 0 ≡ true
+      → One i (t .0) (Acquire l) s j (stateOf (set (s .owners) (l .0) (t .0 + 1)) (s .depths)) j
+  one-acquire l h e q = record {
+    run = view-put s (stateOf (set (s .owners) (l .0) (t .0 + 1)) (s .depths)) j j (t .0) deep done _ _
+        (λ x. rw add-one (set-owner (l .0) (suc (t .0)) x h)) same-depth same-commit refl;
+    passes = e;
+    rightly = λ x. q;
+    long = long-owner (l .0) (t .0 + 1);
+    begun = begins-stay (stateOf (set (s .owners) (l .0) (t .0 + 1)) (s .depths)) (λ u y. y);
+  }
+
+  -- a release
+  one-release : (l : Lock) → l .0 < 64 → eqb (getD (s .owners) (l .0) 0) (t .0 + 1) ≡ true
+      → One i (t .0) (Release l) s j (stateOf (set (s .owners) (l .0) 0) (s .depths)) (withCommit t (committed deep done i) j)
+  one-release l h e = record {
+    run = view-put s (stateOf (set (s .owners) (l .0) 0) (s .depths)) j (withCommit t (committed deep done i) j) (t .0) deep (committed deep done i) _ _
+        (λ x. set-owner (l .0) 0 x h) same-depth (set-commit (committed deep done i)) (mark-view deep done i);
+    passes = rw add-one at e;
+    rightly = λ x. refl;
+    long = long-commit (stateOf (set (s .owners) (l .0) 0) (s .depths)) (committed deep done i) (long-owner (l .0) 0);
+    begun = begins-stay (stateOf (set (s .owners) (l .0) 0) (s .depths)) (λ u y. y);
+  }
+
+  -- an access, by its guard
+  same-view : viewOf s j
+      ≡ record { owner = viewOf s j .owner; depth = put (viewOf s j .depth) (t .0) deep; committed = put (viewOf s j .committed) (t .0) (viewOf s j .committed (t .0)) }
+  same-view = view-put s s j j (t .0) deep done _ _ (λ x. refl) same-depth same-commit refl
+
+  one-access : (g : Guard) (v : Variable) (k : Judging)
+      → judgeOperation i t deep (heldSet (t .0) (s .owners)) (guardedAccess g v) j ≡ judged verdict.Reducible k
+      → One i (t .0) (guardedAccess g v) s j s k
+  unfolding judgeOperation
+  one-access (guard.Locked m) v k e =
+      let q = then-right (contains (heldSet (t .0) (s .owners)) m) _ _ k _ e in
+      rw (q .1) record {
+        run = same-view;
+        passes = refl;
+        rightly = λ x. rw (held-is, add-one) at (q .0);
+        long = z;
+        begun = begins-stay s (λ u y. y);
+      }
+  one-access guard.Unprotected v k e =
+      let q = unprotected-right (getD (j .begins) (t .0) 0) done i t (withCommit t (committed deep done i) j) j k (eqb deep 0) (eqb done 0) refl e in
+      rw (q .1) record {
+        run = view-put s s j (withCommit t (committed deep done i) j) (t .0) deep (committed deep done i) _ _
+            (λ x. refl) same-depth (set-commit (committed deep done i)) (mark-view deep done i);
+        passes = refl;
+        rightly = λ x. q .0;
+        long = long-commit s (committed deep done i) z;
+        begun = begins-stay s (λ u y. y);
+      }
+  one-access guard.Inferred v k e =
+      let q = else-right (eqb (bitAnd (getD (j .sets) (v .0) 0) (heldSet (t .0) (s .owners))) 0) _ _ k _ e in
+      rw (q .1) record {
+        run = same-view;
+        passes = refl;
+        rightly = λ x. absurd x;
+        long = record { owners-long = z .owners-long; depths-long = z .depths-long; begins-long = z .begins-long; commits-long = z .commits-long };
+        begun = begins-stay s (λ u y. y);
+      }
+
+  -- a begin, outermost and nested
+  one-begin : leb 15 deep ≡ false → (k : Judging) → judgeOperation i t deep (heldSet (t .0) (s .owners)) Begin j ≡ judged verdict.Reducible k
+      → One i (t .0) Begin s j (stateOf (s .owners) (set (s .depths) (t .0) (deep + 1))) k
+  unfolding judgeOperation
+  one-begin h k e = go (eqb deep 0) refl e
+    where
+      n : State
+      n = stateOf (s .owners) (set (s .depths) (t .0) (deep + 1))
+
+      outer : Judging
+      outer = judgingOf (set (j .begins) (t .0) i) (set (j .commits) (t .0) 0) (j .sets)
+
+      low : ltb deep 15 ≡ true
+      low = lt-ltb deep 15 (leb-false 15 deep h)
+
+      begun-outer : eqb deep 0 ≡ true → (u : ℕ) → getD (set (j .begins) (t .0) i) u 0 ≡ cond (eqb u (t .0) && eqb deep 0) i (getD (j .begins) u 0)
+      begun-outer q u = getD-set (j .begins) (t .0) i u (omega (arith, z .begins-long)) ∙ rw q (both (eqb u (t .0)))
+        where
+          both : (b : Bool) → cond b i (getD (j .begins) u 0) ≡ cond (b && true) i (getD (j .begins) u 0)
+          both true = refl
+          both false = refl
+
+      begun-inner : eqb deep 0 ≡ false → (u : ℕ) → getD (j .begins) u 0 ≡ cond (eqb u (t .0) && eqb deep 0) i (getD (j .begins) u 0)
+      begun-inner q u = rw q (both (eqb u (t .0)))
+        where
+          both : (b : Bool) → getD (j .begins) u 0 ≡ cond (b && false) i (getD (j .begins) u 0)
+          both true = refl
+          both false = refl
+
+      go : (b : Bool) → eqb deep 0 ≡ b → cond b (judged verdict.Reducible outer) (judged verdict.Reducible j) ≡ judged verdict.Reducible k
+          → One i (t .0) Begin s j n k
+      go true q r = rw (sym (ap (λ (x : Judged). x .judging) r)) record {
+        run = view-put s n j outer (t .0) (suc deep) 0 _ _ (λ x. refl) (λ u. rw add-one (set-depth (suc deep) u)) (set-commit 0) (rw (ne-eqb (suc deep) 0 (omega arith), q));
+        passes = low;
+        rightly = λ x. refl;
+        long = record {
+          owners-long = z .owners-long;
+          depths-long = length-set (s .depths) (t .0) (deep + 1) ∙ z .depths-long;
+          begins-long = length-set (j .begins) (t .0) i ∙ z .begins-long;
+          commits-long = length-set (j .commits) (t .0) 0 ∙ z .commits-long;
+        };
+        begun = λ u ne. begun-outer q u;
+      }
+      go false q r = rw (sym (ap (λ (x : Judged). x .judging) r)) record {
+        run = view-put s n j j (t .0) (suc deep) done _ _ (λ x. refl) (λ u. rw add-one (set-depth (suc deep) u)) same-commit (rw (ne-eqb (suc deep) 0 (omega arith), q));
+        passes = low;
+        rightly = λ x. refl;
+        long = long-depth (deep + 1);
+        begun = λ u ne. begun-inner q u;
+      }
+
+  -- an end
+  end-view : eqb deep 0 ≡ false → cond (eqb (pred deep) 0) 0 done ≡ mark deep (viewOf s j .committed (t .0)) i End
+  end-view h = rw h (go (leb deep 1) refl)
+    where
+      go : (b : Bool) → leb deep 1 ≡ b → cond (eqb (pred deep) 0) 0 done ≡ cond b 0 done
+      go true q = rw (eq-eqb (pred deep) 0 (omega (arith, leb-true deep 1 q)))
+      go false q = rw (ne-eqb (pred deep) 0 (omega (arith, leb-false deep 1 q)))
+
+  one-end : eqb deep 0 ≡ false → One i (t .0) End s j (stateOf (s .owners) (set (s .depths) (t .0) (deep - 1))) j
+  one-end h = record {
+    run = view-put s (stateOf (s .owners) (set (s .depths) (t .0) (deep - 1))) j j (t .0) (pred deep) done _ _ (λ x. refl)
+        (λ u. ap (λ (d : ℕ). getD (set (s .depths) (t .0) d) u 0) same ∙ set-depth (pred deep) u) same-commit (end-view h);
+    passes = lt-ltb 0 deep (omega (arith, eqb-false deep 0 h));
+    rightly = λ x. refl;
+    long = long-depth (deep - 1);
+    begun = begins-stay (stateOf (s .owners) (set (s .depths) (t .0) (deep - 1)))
+        (λ u y. set-depth (deep - 1) u ∙ put-cases (λ v. v ≡ 0) (λ x. getD (s .depths) x 0) (t .0) (deep - 1) u
+        (λ q. absurd (eqb-false deep 0 h (ap (λ (x : ℕ). getD (s .depths) x 0) (sym q) ∙ y))) (λ q. y));
+  }
+    where
+      same : deep - 1 ≡ pred deep
+      same = omega arith
+
+  -- any action
+  one-action : (guards : List ℕ) (n : State) (k : Judging) (a : Action) → ObjectInRange a → stepAction (t .0) a s ≡ stepped outcome.Next n
+      → judgeOperation i t deep (heldSet (t .0) (s .owners)) (operationOf guards a) j ≡ judged verdict.Reducible k
+      → One i (t .0) (operationOf guards a) s j n k
+  unfolding stepAction judgeOperation
+  one-action guards n k (action.Acquire l) h e r =
+      let p = passed (eqb (getD (s .owners) (l .0) 0) 0) _ s _ n e in
+      let q = acquire-right (getD (j .begins) (t .0) 0) done i t l j k (eqb deep 0) (eqb done 0) refl r in
+      rw (p .1, q .1) (one-acquire l h (p .0) (q .0))
+  one-action guards n k (action.Release l) h e r =
+      let p = passed (eqb (getD (s .owners) (l .0) 0) (t .0 + 1)) _ s _ n e in
+      rw (p .1, sym (ap (λ (x : Judged). x .judging) r)) (one-release l h (p .0))
+  one-action guards n k (action.Read v) h e r =
+      rw (sym (ap (λ (x : Stepped). x .state) e)) (one-access (guardOf (getD guards (v .0) 0)) v k r)
+  one-action guards n k (action.Write v) h e r =
+      rw (sym (ap (λ (x : Stepped). x .state) e)) (one-access (guardOf (getD guards (v .0) 0)) v k r)
+  one-action guards n k action.Begin h e r =
+      let p = spared (leb 15 deep) _ s _ n e in
+      rw (p .1) (one-begin (p .0) k r)
+  one-action guards n k action.End h e r =
+      let p = spared (eqb deep 0) _ s _ n e in
+      rw (p .1, sym (ap (λ (x : Judged). x .judging) r)) (one-end (p .0))
+
+-- One frame of the pass is one step of the run.
+pub one-frame : (guards : List ℕ) (i : ℕ) (f : Frame) (s n : State) (j k : Judging) → Long s j → InRange f
+    → stepFrame f s ≡ stepped outcome.Next n → judgeFrame guards i f s j ≡ judged verdict.Reducible k
+    → One i (f .thread .0) (operationOf guards (f .action)) s j n k
+one-frame guards i f s n j k z r e v = one-action s j z i (f .thread) (r .thread) guards n k (f .action) (r .object) e v

@@ -1,0 +1,79 @@
+-- What the calls for the serial order answer and leave, step by step.
+use Prim.Native.Nat.{ℕ, _≤_, _<_}
+use mathlib.Core.Path.{_≡_, refl}
+use mathlib.Core.Bool.{Bool, true, false, not}
+use mathlib.Core.List.{List, _++_}
+use borrow.Author.Tests.{lt-ltb, le-ltb}
+use lib.ListN.{length, drop}
+use Rattle.frame.proofs.Shared.{never}
+use Rattle.frame.specs.declared.Refusal.the-variants as refusal
+use Rattle.reply.specs.Reply.{reducible}
+use Rattle.reply.specs.declared.Mark.the-variants.{At, Absent}
+use Rattle.reply.specs.declared.Reply.{Reply}
+use Rattle.reply.specs.declared.Reply.the-variants as reply
+use Rattle.reply.specs.declared.Verdict.the-variants as verdict
+use Rattle.pass.specs.Pass.{fullSets, judgement}
+use Rattle.serial.specs.Order.{serialWords}
+use Rattle.serial.specs.Walk.{endPoint, firstOpen}
+use Rattle.order.specs.Order.{refused, reducibleReply, irreducible, orderReply, orderOut, outAfter}
+use Rattle.order.specs.declared.OrderReply.the-variants as order
+
+-- a test turned round
+pub turned-true : (b : Bool) → not b ≡ true → b ≡ false
+turned-true true e = let z : _≡_ {A = ℕ} 0 1 = cc in never z
+turned-true false e = refl
+
+pub turned-false : (b : Bool) → not b ≡ false → b ≡ true
+turned-false true e = refl
+turned-false false e = let z : _≡_ {A = ℕ} 0 1 = cc in never z
+
+-- a reply that says reducible
+pub says-reducible : (r : Reply) → reducibleReply r ≡ true → r ≡ reducible
+says-reducible (reply.Refused x) e = let z : _≡_ {A = ℕ} 0 1 = cc in never z
+says-reducible (reply.Judged verdict.Reducible) e = refl
+says-reducible (reply.Judged (verdict.Violated v)) e = let z : _≡_ {A = ℕ} 0 1 = cc in never z
+
+-- a refusal leaves the output
+irreducible-out : (r : Reply) (words out : List ℕ) → reducibleReply r ≡ false → outAfter (irreducible r) words out ≡ out
+irreducible-out (reply.Refused x) words out e = refl
+irreducible-out (reply.Judged verdict.Reducible) words out e = let z : _≡_ {A = ℕ} 0 1 = cc in never z
+irreducible-out (reply.Judged (verdict.Violated v)) words out e = refl
+
+module _ (guards ws out : List ℕ) where
+  module _ (e : reducibleReply (judgement guards fullSets ws .reply) ≡ false) where
+    pub not-reducible : orderReply guards ws (length out) ≡ irreducible (judgement guards fullSets ws .reply)
+    unfolding orderReply
+    not-reducible = rw e
+
+    pub not-reducible-out : orderOut guards ws out ≡ out
+    unfolding orderOut
+    not-reducible-out = rw not-reducible (irreducible-out (judgement guards fullSets ws .reply) (serialWords guards ws) out e)
+
+  module _ (e : reducibleReply (judgement guards fullSets ws .reply) ≡ true) where
+    module _ (b : ℕ) (o : firstOpen (endPoint guards ws) ≡ At b) where
+      pub still-open : orderReply guards ws (length out) ≡ refused refusal.OpenBlock b
+      unfolding orderReply
+      still-open = rw (e, o)
+
+      pub still-open-out : orderOut guards ws out ≡ out
+      unfolding orderOut
+      still-open-out = rw still-open
+
+    module _ (o : firstOpen (endPoint guards ws) ≡ Absent) where
+      module _ (short : length out < length ws) where
+        pub no-room : orderReply guards ws (length out) ≡ refused refusal.OutputBuffer (length ws)
+        unfolding orderReply
+        no-room = rw (e, o, lt-ltb (length out) (length ws) short)
+
+        pub no-room-out : orderOut guards ws out ≡ out
+        unfolding orderOut
+        no-room-out = rw no-room
+
+      module _ (room : length ws ≤ length out) where
+        pub is-written : orderReply guards ws (length out) ≡ order.Written (length ws)
+        unfolding orderReply
+        is-written = rw (e, o, le-ltb (length out) (length ws) room)
+
+        pub is-written-out : orderOut guards ws out ≡ serialWords guards ws ++ drop (length ws) out
+        unfolding orderOut
+        is-written-out = rw is-written

@@ -1,0 +1,2 @@
+-- Laws of the calls for the serial order.
+pub mod Laws

@@ -1,0 +1,137 @@
+use mathlib.Core.Path.{sym, _∙_}
+use native.Mathlib.Omega.{arith}
+use borrow.Author.Needs.{needs}
+use Rattle.reply.specs.declared.Verdict.the-variants.{Reducible}
+use Rattle.pass.specs.Pass.{fullSets, judgement}
+use Rattle.pass.proofs.Judgement.{judgement-fits}
+use Rattle.demand.proofs.Demand.{walk-is-order, order-length, closed-open}
+use Rattle.order.proofs.Laws.{turned-true, turned-false, says-reducible, not-reducible, not-reducible-out, still-open, still-open-out, no-room, no-room-out, is-written, is-written-out}
+use borrow.Author.Needs.{needs}
+use Rattle.order.proofs.order.Statement.{statement}
+use Rattle.order.proofs.order.Tie as tie
+
+judge-recording-requires : tie.Need-judge-recording-requires
+judge-recording-requires c κs = search needs
+
+is-irreducible-requires : tie.Need-is-irreducible-requires
+is-irreducible-requires c κs = search needs
+
+refusal-requires : tie.Need-refusal-requires
+refusal-requires c κs = search needs
+
+returns : tie.Need-returns
+unfolding fullSets
+returns c =
+    let a = c .before .before .before .before .before .before .before .args in
+    let g = a .guards .now in
+    let ws = a .words .now in
+    let j = c .before .before .before .judge-recording .ensures .0 in
+    let t = turned-true _ (rw j at (sym (c .before .before .is-irreducible .ensures) ∙ c .before .if1 .taken)) in
+    (c .refusal .ensures ∙ rw j (sym (not-reducible g ws (a .out .now) t)), sym (not-reducible-out g ws (a .out .now) t))
+
+end-marks-requires : tie.Need-end-marks-requires
+unfolding fullSets
+end-marks-requires c κs =
+    let a = c .before .before .before .before .before .before .args in
+    let g = a .guards .now in
+    let ws = a .words .now in
+    let j = c .before .before .judge-recording .ensures .0 in
+    let t = turned-false _ (rw j at (sym (c .before .is-irreducible .ensures) ∙ c .if1 .left)) in
+    let r = says-reducible (judgement g fullSets ws .reply) t in
+    judgement-fits g fullSets ws Reducible r
+
+first-open-requires : tie.Need-first-open-requires
+first-open-requires c κs = search needs
+
+enum-known-open : tie.Need-enum-known-open
+enum-known-open c = search needs
+
+returns-2 : tie.Need-returns-2
+unfolding fullSets
+returns-2 c =
+    let a = c .before .before .before .before .before .before .before .before .before .before .before .args in
+    let g = a .guards .now in
+    let ws = a .words .now in
+    let j = c .before .before .before .before .before .before .before .judge-recording .ensures .0 in
+    let t = turned-false _ (rw j at (sym (c .before .before .before .before .before .before .is-irreducible .ensures) ∙ c .before .before .before .before .before .if1 .left)) in
+    let r = says-reducible (judgement g fullSets ws .reply) t in
+    let o = rw (c .before .before .before .before .end-marks .ensures .0, c .before .before .before .before .end-marks .ensures .1) at (c .before .before .before .first-open .ensures) in
+    let w = sym o ∙ c .before .«open» .given .1 in
+    (sym (still-open g ws (a .out .now) t _ w), sym (still-open-out g ws (a .out .now) t _ w))
+
+enum-told : tie.Need-enum-told
+enum-told c = search needs
+
+cast-n : tie.Need-cast-n
+unfolding fullSets
+cast-n c =
+    let a = c .before .before .before .before .before .before .before .before .before .before .args in
+    let g = a .guards .now in
+    let ws = a .words .now in
+    let j = c .before .before .before .before .before .before .judge-recording .ensures .0 in
+    let t = turned-false _ (rw j at (sym (c .before .before .before .before .before .is-irreducible .ensures) ∙ c .before .before .before .before .if1 .left)) in
+    let r = says-reducible (judgement g fullSets ws .reply) t in
+    omega (arith, judgement-fits g fullSets ws Reducible r)
+
+returns-3 : tie.Need-returns-3
+unfolding fullSets
+returns-3 c =
+    let a = c .before .before .before .before .before .before .before .before .before .before .before .args in
+    let g = a .guards .now in
+    let ws = a .words .now in
+    let j = c .before .before .before .before .before .before .before .judge-recording .ensures .0 in
+    let t = turned-false _ (rw j at (sym (c .before .before .before .before .before .before .is-irreducible .ensures) ∙ c .before .before .before .before .before .if1 .left)) in
+    let r = says-reducible (judgement g fullSets ws .reply) t in
+    let o = rw (c .before .before .before .before .end-marks .ensures .0, c .before .before .before .before .end-marks .ensures .1) at (c .before .before .before .first-open .ensures) in
+    let w = sym o ∙ c .before .enum-told .given .1 in
+    (sym (no-room g ws (a .out .now) t w (c .if2 .taken)), sym (no-room-out g ws (a .out .now) t w (c .if2 .taken)))
+
+write-order-requires : tie.Need-write-order-requires
+unfolding fullSets
+write-order-requires c κs =
+    let a = c .before .before .before .before .before .before .before .before .before .before .before .before .args in
+    let g = a .guards .now in
+    let ws = a .words .now in
+    let j = c .before .before .before .before .before .before .before .before .judge-recording .ensures .0 in
+    let t = turned-false _ (rw j at (sym (c .before .before .before .before .before .before .before .is-irreducible .ensures) ∙ c .before .before .before .before .before .before .if1 .left)) in
+    let r = says-reducible (judgement g fullSets ws .reply) t in
+    let o = rw (c .before .before .before .before .before .end-marks .ensures .0, c .before .before .before .before .before .end-marks .ensures .1) at (c .before .before .before .before .first-open .ensures) in
+    let w = sym o ∙ c .before .before .enum-told .given .1 in
+    let d = closed-open g ws r w in
+    (judgement-fits g fullSets ws Reducible r, rw (walk-is-order g ws (c .before .before .before .before .before .before .before .before .before .before .before .before .pre) r d, order-length g ws (c .before .before .before .before .before .before .before .before .before .before .before .before .pre) r d) (c .before .if2 .left))
+
+same-length : tie.Need-same-length
+same-length c = search needs
+
+returns-4 : tie.Need-returns-4
+unfolding fullSets
+returns-4 c =
+    let a = c .before .before .before .before .before .before .before .before .before .before .before .before .before .before .before .args in
+    let g = a .guards .now in
+    let ws = a .words .now in
+    let j = c .before .before .before .before .before .before .before .before .before .before .before .judge-recording .ensures .0 in
+    let t = turned-false _ (rw j at (sym (c .before .before .before .before .before .before .before .before .before .before .is-irreducible .ensures) ∙ c .before .before .before .before .before .before .before .before .before .if1 .left)) in
+    let r = says-reducible (judgement g fullSets ws .reply) t in
+    let o = rw (c .before .before .before .before .before .before .before .before .end-marks .ensures .0, c .before .before .before .before .before .before .before .before .end-marks .ensures .1) at (c .before .before .before .before .before .before .before .first-open .ensures) in
+    let w = sym o ∙ c .before .before .before .before .before .enum-told .given .1 in
+    let d = closed-open g ws r w in
+    (sym (is-written g ws (a .out .now) t w (c .before .before .before .before .if2 .left)), rw (walk-is-order g ws (c .before .before .before .before .before .before .before .before .before .before .before .before .before .before .before .pre) r d, order-length g ws (c .before .before .before .before .before .before .before .before .before .before .before .before .before .before .before .pre) r d) at (c .before .before .write-order .ensures) ∙ sym (is-written-out g ws (a .out .now) t w (c .before .before .before .before .if2 .left)))
+
+pub order-spec : {M : Type 1} → statement M
+order-spec =
+    tie.close
+    (tie.spec
+    judge-recording-requires
+    is-irreducible-requires
+    refusal-requires
+    returns
+    end-marks-requires
+    first-open-requires
+    enum-known-open
+    returns-2
+    enum-told
+    cast-n
+    returns-3
+    write-order-requires
+    same-length
+    returns-4)

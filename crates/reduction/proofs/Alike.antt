@@ -1,0 +1,73 @@
+-- Which lock guards an access changes no key: guardings under which every action does the same to locks, depths and commits give the same
+-- keys, the same serial order and the same walk. In this order: operations that do the same, runs, keys, the order and the walk.
+use Prim.Native.Nat.{ℕ, suc}
+use mathlib.Core.Path.{_≡_, refl}
+use mathlib.Core.List.{List, [], _∷_}
+use Rattle.frame.specs.declared.Lock.{Lock}
+use Rattle.frame.specs.declared.Variable.{Variable}
+use Rattle.frame.specs.declared.Action.{Action}
+use Rattle.frame.specs.declared.Action.the-variants as action
+use Rattle.frame.specs.declared.Frame.{Frame}
+use Rattle.judge.specs.Rules.{accessOf, operationOf}
+use Rattle.judge.specs.declared.Operation.{Operation}
+use Rattle.judge.specs.declared.Operation.the-variants.{Protected, Inferred}
+use Rattle.reduction.proofs.Run.{threadOf, Run, begin, put, owners, deeper, mark, onto, commitPlace, keyOf, keyed}
+use Rattle.reduction.proofs.Serial.{serialOrder}
+use Rattle.reduction.proofs.Units.{openFrom, walk}
+
+-- Two operations that do the same to locks, depths and commits.
+pub record Alike (k k′ : Operation) : Type 0 where
+  pub owner : (o : ℕ → ℕ) (t : ℕ) → owners o t k ≡ owners o t k′
+  pub depth : (d : ℕ) → deeper d k ≡ deeper d k′
+  pub commit : (d c n : ℕ) → mark d c n k ≡ mark d c n k′
+
+pub alike-same : (k : Operation) → Alike k k
+alike-same k = record { owner = λ o t. refl; depth = λ d. refl; commit = λ d c n. refl }
+
+pub alike-inferred : (v : Variable) (m : Lock) → Alike (Inferred v) (Protected m)
+alike-inferred v m = record { owner = λ o t. refl; depth = λ d. refl; commit = λ d c n. refl }
+
+pub alike-protected : (m m′ : Lock) → Alike (Protected m) (Protected m′)
+alike-protected m m′ = record { owner = λ o t. refl; depth = λ d. refl; commit = λ d c n. refl }
+
+-- It is enough to compare the accesses.
+pub alike-accesses : (guards guards′ : List ℕ) → ((v : Variable) → Alike (accessOf guards v) (accessOf guards′ v)) → (a : Action)
+    → Alike (operationOf guards a) (operationOf guards′ a)
+alike-accesses guards guards′ h (action.Acquire l) = alike-same (operationOf guards (action.Acquire l))
+alike-accesses guards guards′ h (action.Release l) = alike-same (operationOf guards (action.Release l))
+alike-accesses guards guards′ h (action.Read v) = h v
+alike-accesses guards guards′ h (action.Write v) = h v
+alike-accesses guards guards′ h action.Begin = alike-same (operationOf guards action.Begin)
+alike-accesses guards guards′ h action.End = alike-same (operationOf guards action.End)
+
+run-equal : {o o′ : ℕ → ℕ} {d d′ : ℕ} {c c′ : ℕ} (s : Run) (t : ℕ) → o ≡ o′ → d ≡ d′ → c ≡ c′
+    → _≡_ {A = Run} (record { owner = o; depth = put (s .depth) t d; committed = put (s .committed) t c })
+    (record { owner = o′; depth = put (s .depth) t d′; committed = put (s .committed) t c′ })
+run-equal s t p q r = rw (p, q, r)
+
+module _ (guards guards′ : List ℕ) (alike : (a : Action) → Alike (operationOf guards a) (operationOf guards′ a)) where
+  pub onto-alike : (s : Run) (n : ℕ) (f : Frame) → onto guards s n f ≡ onto guards′ s n f
+  onto-alike s n f =
+      run-equal s (threadOf f) (alike (f .action) .owner (s .owner) (threadOf f)) (alike (f .action) .depth (s .depth (threadOf f)))
+      (alike (f .action) .commit (s .depth (threadOf f)) (s .committed (threadOf f)) n)
+
+  commitPlace-alike : (t : ℕ) (s : Run) (n : ℕ) (l : List Frame) → commitPlace guards t s n l ≡ commitPlace guards′ t s n l
+  commitPlace-alike t s n [] = refl
+  commitPlace-alike t s n (f ∷ l) = cc (onto-alike s n f, commitPlace-alike t (onto guards′ s n f) (suc n) l)
+
+  keyOf-alike : (s : Run) (n : ℕ) (f : Frame) (l : List Frame) → keyOf guards s n f l ≡ keyOf guards′ s n f l
+  keyOf-alike s n f l = cc (commitPlace-alike (threadOf f) s n (f ∷ l))
+
+  -- The keys are the same.
+  pub keyed-alike : (s : Run) (n : ℕ) (l : List Frame) → keyed guards s n l ≡ keyed guards′ s n l
+  keyed-alike s n [] = refl
+  keyed-alike s n (f ∷ l) = cc (keyOf-alike s n f l, onto-alike s n f, keyed-alike (onto guards′ s n f) (suc n) l)
+
+  -- The serial order is the same.
+  pub serialOrder-alike : (l : List Frame) → serialOrder guards l ≡ serialOrder guards′ l
+  serialOrder-alike l = cc (keyed-alike begin 0 l)
+
+  -- The walk is the same.
+  pub walk-alike : (s : Run) (o : ℕ → List Frame) (n : ℕ) (l : List Frame) → walk guards s o n l ≡ walk guards′ s o n l
+  walk-alike s o n [] = refl
+  walk-alike s o n (f ∷ l) = cc (onto-alike s n f, walk-alike (onto guards′ s n f) (openFrom s o f l) (suc n) l)

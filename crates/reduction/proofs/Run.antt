@@ -1,0 +1,137 @@
+-- A recording's run over states of functions: the steps that are sound and do not go wrong under declared guards, and the place of each
+-- frame's commit. What the code's states of lists have to do with these is in View.
+use Prim.Native.Nat.{ℕ, suc, pred}
+use mathlib.Core.Path.{_≡_}
+use mathlib.Core.Bool.{Bool, true, false, cond, not, _&&_, _||_}
+use mathlib.Core.List.{List, [], _∷_}
+use lib.Dec.{eqb, leb, ltb}
+use Rattle.frame.specs.declared.Action.{Action}
+use Rattle.frame.specs.declared.Action.the-variants as action
+use Rattle.frame.specs.declared.Frame.{Frame}
+use Rattle.judge.specs.Rules.{operationOf}
+use Rattle.judge.specs.declared.Operation.{Operation}
+use Rattle.judge.specs.declared.Operation.the-variants.{Acquire, Release, Protected, Unprotected, Inferred, Begin, End}
+
+-- The number of a frame's thread.
+abbrev pub threadOf : Frame → ℕ
+threadOf f = f .thread .0
+
+-- `owner` has 0 for a free lock, and t + 1 for one that the thread t holds. `committed` has 0 for a thread that is outside or before commit,
+-- and c + 1 for one that is after the commit at the place c.
+pub record Run : Type 0 where
+  pub owner : ℕ → ℕ
+  pub depth : ℕ → ℕ
+  pub committed : ℕ → ℕ
+
+abbrev pub begin : Run
+begin = record { owner = λ m. 0; depth = λ t. 0; committed = λ t. 0 }
+
+abbrev pub put : (ℕ → ℕ) → ℕ → ℕ → ℕ → ℕ
+put f k v i = cond (eqb i k) v (f i)
+
+-- A step that refusals 7 to 10 let pass.
+abbrev pub sound : Run → ℕ → Operation → Bool
+sound s t (Acquire m) = eqb (s .owner (m .0)) 0
+sound s t (Release m) = eqb (s .owner (m .0)) (suc t)
+sound s t (Protected m) = true
+sound s t Unprotected = true
+sound s t (Inferred v) = true
+sound s t Begin = ltb (s .depth t) 15
+sound s t End = ltb 0 (s .depth t)
+
+-- Figure 8: a step that does not go wrong. Guards are declared here, so no guard is inferred.
+abbrev pub right : Run → ℕ → Operation → Bool
+right s t (Acquire m) = eqb (s .committed t) 0
+right s t (Release m) = true
+right s t (Protected m) = eqb (s .owner (m .0)) (suc t)
+right s t Unprotected = eqb (s .committed t) 0
+right s t (Inferred v) = false
+right s t Begin = true
+right s t End = true
+
+abbrev pub owners : (ℕ → ℕ) → ℕ → Operation → ℕ → ℕ
+owners o t (Acquire m) = put o (m .0) (suc t)
+owners o t (Release m) = put o (m .0) 0
+owners o t (Protected m) = o
+owners o t Unprotected = o
+owners o t (Inferred v) = o
+owners o t Begin = o
+owners o t End = o
+
+abbrev pub deeper : ℕ → Operation → ℕ
+deeper d (Acquire m) = d
+deeper d (Release m) = d
+deeper d (Protected m) = d
+deeper d Unprotected = d
+deeper d (Inferred v) = d
+deeper d Begin = suc d
+deeper d End = pred d
+
+-- A release or an unprotected access commits the block that it stands in; the outermost end leaves it.
+abbrev pub mark : ℕ → ℕ → ℕ → Operation → ℕ
+mark d c n (Acquire m) = c
+mark d c n (Release m) = cond (eqb d 0) c (cond (eqb c 0) (suc n) c)
+mark d c n (Protected m) = c
+mark d c n Unprotected = cond (eqb d 0) c (cond (eqb c 0) (suc n) c)
+mark d c n (Inferred v) = c
+mark d c n Begin = c
+mark d c n End = cond (leb d 1) 0 c
+
+abbrev pub afterwards : Run → ℕ → ℕ → Operation → Run
+afterwards s n t k = record {
+  owner = owners (s .owner) t k;
+  depth = put (s .depth) t (deeper (s .depth t) k);
+  committed = put (s .committed) t (mark (s .depth t) (s .committed t) n k);
+}
+
+-- A thread's depth after a list of frames: its begins less its ends.
+abbrev pub nest : ℕ → Action → ℕ
+nest d (action.Acquire m) = d
+nest d (action.Release m) = d
+nest d (action.Read x) = d
+nest d (action.Write x) = d
+nest d action.Begin = suc d
+nest d action.End = pred d
+
+abbrev pub depthAt : ℕ → ℕ → List Frame → ℕ
+depthAt t d [] = d
+depthAt t d (f ∷ l) = depthAt t (cond (eqb (threadOf f) t) (nest d (f .action)) d) l
+
+-- All blocks are closed.
+abbrev pub Closed : List Frame → Type 0
+Closed l = (t : ℕ) → depthAt t 0 l ≡ 0
+
+-- The thread is outside or after commit.
+abbrev pub settled : Run → ℕ → Bool
+settled s t = eqb (s .depth t) 0 || not (eqb (s .committed t) 0)
+
+-- A frame with the place of its unit's commit.
+pub record Keyed (A : Type 0) : Type 0 where
+  pub key : ℕ
+  pub frame : A
+
+module _ (guards : List ℕ) where
+  -- A frame as the rules see it.
+  abbrev pub seen : Frame → Operation
+  seen f = operationOf guards (f .action)
+
+  abbrev pub onto : Run → ℕ → Frame → Run
+  onto s n f = afterwards s n (threadOf f) (seen f)
+
+  -- No frame from here on is refused, and none goes wrong.
+  abbrev pub Good : Run → ℕ → List Frame → Type 0
+  Good s n [] = Unit {0}
+  Good s n (f ∷ l) = (sound s (threadOf f) (seen f) ≡ true) × (right s (threadOf f) (seen f) ≡ true) × Good (onto s n f) (suc n) l
+
+  -- The commit of the unit that the thread t, outside or before commit, is in or comes to next: its first frame that leaves it outside or
+  -- after commit.
+  abbrev pub commitPlace : ℕ → Run → ℕ → List Frame → ℕ
+  commitPlace t s n [] = n
+  commitPlace t s n (f ∷ l) = cond (eqb (threadOf f) t && settled (onto s n f) t) n (commitPlace t (onto s n f) (suc n) l)
+
+  abbrev pub keyOf : Run → ℕ → Frame → List Frame → ℕ
+  keyOf s n f l = cond (eqb (s .committed (threadOf f)) 0) (commitPlace (threadOf f) s n (f ∷ l)) (pred (s .committed (threadOf f)))
+
+  abbrev pub keyed : Run → ℕ → List Frame → List (Keyed Frame)
+  keyed s n [] = []
+  keyed s n (f ∷ l) = record { key = keyOf s n f l; frame = f } ∷ keyed (onto s n f) (suc n) l

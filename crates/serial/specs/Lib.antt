@@ -1,0 +1,3 @@
+-- What a reader must believe of the serial order.
+pub mod Order
+pub mod Walk

@@ -1,0 +1,271 @@
+// The serial order of a recording, written unit by unit: a walk that copies each unit where it commits. Also the begins of blocks that are
+// still open at the end.
+use frame::Action;
+use frame::Decoded;
+use frame::Thread;
+use reply::Mark;
+use reply::Verdict;
+use soundness::Outcome;
+ghost use mathlib.Core.Path.{_≡_};
+ghost use mathlib.Core.Bool.{cond};
+ghost use mathlib.Core.List.{_++_};
+ghost use Prim.Native.Nat.{_≤_};
+ghost use lib.ListN.{length, drop};
+ghost use Rattle.judge.specs.Rules.{phaseOf};
+ghost use Rattle.serial.specs.Order.{settled};
+ghost use Rattle.serial.specs.Walk.{ownFrame, unitOf, unitStart, walkWords, endPoint, earlier, openBegin, firstOpenFrom};
+
+// A frame seen by a thread: its own, with the depth after it, or another's.
+pub enum Own {
+    Mine(u8),
+    Other,
+}
+
+// The depth of each thread, and its outermost begin.
+pub struct Marks {
+    pub depths: [u8; 32],
+    pub begins: [u32; 32],
+}
+
+fn own_frame(d: Decoded, t: Thread, depth: u8) -> Own
+    ensures { λ r. ⌜ r ≡ ownFrame d t depth ⌝ }
+{
+    let Decoded::Frame(f) = d else {
+        return Own::Other;
+    };
+    let thread = f.thread;
+    if thread.0 != t.0 {
+        return Own::Other;
+    }
+    let a = f.action;
+    match a {
+        Action::Acquire(_) => Own::Mine(depth),
+        Action::Release(_) => Own::Mine(depth),
+        Action::Read(_) => Own::Mine(depth),
+        Action::Write(_) => Own::Mine(depth),
+        Action::Begin => {
+            if depth < 15 {
+                Own::Mine(depth + 1)
+            } else {
+                Own::Mine(depth)
+            }
+        }
+        Action::End => {
+            if depth == 0 {
+                Own::Mine(0)
+            } else {
+                Own::Mine(depth - 1)
+            }
+        }
+    }
+}
+
+// The frames of the unit of thread t that starts at a place, copied to the front of out.
+fn write_unit(words: &[u32], begin: usize, t: Thread, out: &mut [u32]) -> usize
+    requires { ⌜ length (unitOf (now words) begin t) ≤ length (now out) ⌝ }
+    ensures count { λ r. ⌜ r ≡ length (unitOf (now (words .entry)) begin t) ⌝ }
+    ensures contents { λ r. ⌜ now (out .exit) ≡ unitOf (now (words .entry)) begin t ++ drop r (now (out .entry)) ⌝ }
+{
+    let mut n: usize = 0;
+    let mut depth: u8 = 0;
+    let mut i = begin;
+    while i < words.len() {
+        let word = words[i];
+        i += 1;
+        let own = own_frame(frame::decode(word), t, depth);
+        if let Own::Mine(d) = own {
+            out[n] = word;
+            n += 1;
+            depth = d;
+            if d == 0 {
+                return n;
+            }
+        }
+    }
+    n
+}
+
+// Whether a thread is outside or after commit.
+fn is_settled(depth: u8, committed: u32) -> bool
+    ensures { λ r. ⌜ r ≡ settled (phaseOf depth 0 committed) ⌝ }
+{
+    if depth == 0 {
+        return true;
+    }
+    if committed == 0 {
+        return false;
+    }
+    true
+}
+
+fn mark_if(b: bool, i: u32) -> Mark
+    ensures { λ r. ⌜ r ≡ cond b (Mark.At i) Mark.Absent ⌝ }
+{
+    if b {
+        return Mark::At(i);
+    }
+    Mark::Absent
+}
+
+// Where the unit starts that a frame at place i commits: its thread's depth, begin and commit before the frame, and depth and commit after.
+fn unit_start(d: u8, begin: u32, commit: u32, depth: u8, committed: u32, i: u32) -> Mark
+    ensures { λ r. ⌜ r ≡ unitStart (phaseOf d begin commit) (settled (phaseOf depth 0 committed)) i ⌝ }
+{
+    if d == 0 {
+        return mark_if(is_settled(depth, committed), i);
+    }
+    if commit == 0 {
+        return mark_if(is_settled(depth, committed), begin);
+    }
+    Mark::Absent
+}
+
+// The earlier of two places.
+fn earlier_of(a: Mark, b: Mark) -> Mark
+    ensures { λ r. ⌜ r ≡ earlier a b ⌝ }
+{
+    let Mark::At(x) = a else {
+        return b;
+    };
+    let Mark::At(y) = b else {
+        return Mark::At(x);
+    };
+    if y < x {
+        return Mark::At(y);
+    }
+    Mark::At(x)
+}
+
+fn open_begin(d: u8, begin: u32) -> Mark
+    ensures { λ r. ⌜ r ≡ openBegin d begin ⌝ }
+{
+    if d == 0 {
+        return Mark::Absent;
+    }
+    Mark::At(begin)
+}
+
+// The earliest begin of a block that is open.
+pub fn first_open(m: Marks) -> Mark
+    ensures { λ r. ⌜ r ≡ firstOpenFrom 32 0 Mark.Absent (m .depths) (m .begins) ⌝ }
+{
+    let depths = m.depths;
+    let begins = m.begins;
+    let mut least = Mark::Absent;
+    let mut k: usize = 0;
+    while k < 32 {
+        let b = open_begin(depths[k], begins[k]);
+        least = earlier_of(least, b);
+        k += 1;
+    }
+    least
+}
+
+// The threads at the end of a recording.
+pub fn end_marks(words: &[u32], guards: &[u8; 1024]) -> Marks
+    requires { ⌜ length (now words) ≤ 4096 ⌝ }
+    ensures depths { λ r. ⌜ r .depths ≡ endPoint (now (guards .entry)) (now (words .entry)) .state .depths ⌝ }
+    ensures begins { λ r. ⌜ r .begins ≡ endPoint (now (guards .entry)) (now (words .entry)) .judging .begins ⌝ }
+{
+    let mut owners = [0u8; 64];
+    let mut depths = [0u8; 32];
+    let mut held = [0u64; 32];
+    let mut begins = [0u32; 32];
+    let mut commits = [0u32; 32];
+    let mut sets = [18446744073709551615u64; 1024];
+    let mut i: usize = 0;
+    while i < words.len() {
+        let d = frame::decode(words[i]);
+        let Decoded::Frame(f) = d else {
+            return Marks {
+                depths: depths,
+                begins: begins,
+            };
+        };
+        let thread = f.thread;
+        let t = thread.0 as usize;
+        let depth = depths[t];
+        let o = soundness::step(&mut owners, &mut depths, f);
+        let Outcome::Next = o else {
+            return Marks {
+                depths: depths,
+                begins: begins,
+            };
+        };
+        let a = f.action;
+        let op = judge::operation_of(guards, a);
+        let v = judge::judge(
+            &mut held,
+            &mut begins,
+            &mut commits,
+            &mut sets,
+            depth,
+            i as u32,
+            thread,
+            op,
+        );
+        let Verdict::Reducible = v else {
+            return Marks {
+                depths: depths,
+                begins: begins,
+            };
+        };
+        i += 1;
+    }
+    Marks {
+        depths: depths,
+        begins: begins,
+    }
+}
+
+// The units of a recording, each written where the one before stopped.
+pub fn write_order(words: &[u32], guards: &[u8; 1024], out: &mut [u32])
+    requires { ⌜ length (now words) ≤ 4096 ⌝ ∗ ⌜ length (walkWords (now guards) (now words)) ≤ length (now out) ⌝ }
+    ensures { λ r. ⌜ now (out .exit) ≡ walkWords (now (guards .entry)) (now (words .entry)) ++ drop (length (walkWords (now (guards .entry)) (now (words .entry)))) (now (out .entry)) ⌝ }
+{
+    let mut owners = [0u8; 64];
+    let mut depths = [0u8; 32];
+    let mut held = [0u64; 32];
+    let mut begins = [0u32; 32];
+    let mut commits = [0u32; 32];
+    let mut sets = [18446744073709551615u64; 1024];
+    let mut at: usize = 0;
+    let mut i: usize = 0;
+    while i < words.len() {
+        let d = frame::decode(words[i]);
+        let Decoded::Frame(f) = d else {
+            return;
+        };
+        let thread = f.thread;
+        let t = thread.0 as usize;
+        let depth = depths[t];
+        let begin = begins[t];
+        let commit = commits[t];
+        let o = soundness::step(&mut owners, &mut depths, f);
+        let Outcome::Next = o else {
+            return;
+        };
+        let a = f.action;
+        let op = judge::operation_of(guards, a);
+        let v = judge::judge(
+            &mut held,
+            &mut begins,
+            &mut commits,
+            &mut sets,
+            depth,
+            i as u32,
+            thread,
+            op,
+        );
+        let Verdict::Reducible = v else {
+            return;
+        };
+        let start = unit_start(depth, begin, commit, depths[t], commits[t], i as u32);
+        i += 1;
+        if let Mark::At(b) = start {
+            let from = b as usize;
+            let n = write_unit(words, from, thread, &mut out[at..]);
+            at += n;
+        }
+    }
+}
