@@ -1,9 +1,10 @@
-//! Tells the linker where the static archive under test is.
+//! Tells the linker where the static archives under test are.
 
 fn main() {
     println!("cargo:rerun-if-env-changed=TRACE_LIB_DIR");
     if let Ok(folder) = std::env::var("TRACE_LIB_DIR") {
         println!("cargo:rustc-link-search=native={folder}");
         println!("cargo:rerun-if-changed={folder}/libtrace.a");
+        println!("cargo:rerun-if-changed={folder}/libtraceorder.a");
     }
 }

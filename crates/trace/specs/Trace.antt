@@ -16,12 +16,6 @@ use Rattle.reply.specs.declared.Reply.{Reply}
 use Rattle.reply.specs.declared.Reply.the-variants as reply
 use Rattle.line.specs.Line.{replyFields, verdictLine}
 use Rattle.verdict.specs.Verdict.{inferredReply, inferredSets}
-use Rattle.equal.specs.declared.Side.{Side}
-use Rattle.equal.specs.declared.Side.the-variants as side
-use Rattle.equal.specs.declared.EqualReply.{EqualReply}
-use Rattle.equal.specs.declared.EqualReply.the-variants as equal
-use Rattle.order.specs.declared.OrderReply.{OrderReply}
-use Rattle.order.specs.declared.OrderReply.the-variants as order
 use Rattle.trace.specs.declared.TextJudged.{TextJudged}
 
 -- A number that answers: the refusal's number in the high 32 bits and its place in the low 32; or no refusal, and the count answered.
@@ -60,18 +54,3 @@ textJudged s = onRead (scanned s) s
 -- The table of candidate sets after the inferred verdict into a line buffer of n bytes.
 abbrev pub setsAfter : List ℕ → List ℕ → ℕ → List ℕ
 setsAfter ws sets n = cond (ltb n 33) sets (inferredSets ws sets)
-
--- A refusal of the right side has its number plus 256 in the high 32 bits.
-abbrev pub packedSide : Side → Refused → ℕ
-packedSide side.Left r = packed r
-packedSide side.Right r = packed r + 256 * 4294967296
-
--- 1 equal, 0 not.
-abbrev pub equalAnswer : EqualReply → ℕ
-equalAnswer equal.Equal = 1
-equalAnswer equal.Different = 0
-equalAnswer (equal.Refused s r) = packedSide s r
-
-abbrev pub orderAnswer : OrderReply → ℕ
-orderAnswer (order.Written n) = n
-orderAnswer (order.Refused r) = packed r

@@ -1,9 +1,7 @@
-// The functions that C programs call: the planner's entry, and the parts of the library.
-use equal::EqualReply;
-use equal::Side;
+// Functions that C programs call: the planner's entry, texts, guard lists and verdicts. Equality and the serial order are in crate traceorder:
+// apart from these, so that the judging pass is compiled into one loop here.
 use frame::Refused;
 use guards::GuardsReply;
-use order::OrderReply;
 use reply::Reply;
 use text::ReadReply;
 ghost use mathlib.Core.Path.{_≡_};
@@ -14,9 +12,7 @@ ghost use Rattle.line.specs.Line.{verdictLine};
 ghost use Rattle.text.specs.Text.{readReply, readWords};
 ghost use Rattle.guards.specs.Guards.{guardsRead};
 ghost use Rattle.verdict.specs.Verdict.{declaredReply, inferredReply};
-ghost use Rattle.trace.specs.Trace.{packed, readAnswer, guardsAnswer, replyKind, kindAnswer, lineAfter, textJudged, setsAfter, packedSide, equalAnswer, orderAnswer};
-ghost use Rattle.equal.specs.Equal.{equalReply};
-ghost use Rattle.order.specs.Order.{declaredOrder, declaredOut, inferredOrder, inferredOut};
+ghost use Rattle.trace.specs.Trace.{packed, readAnswer, guardsAnswer, replyKind, kindAnswer, lineAfter, textJudged, setsAfter};
 
 // The bytes of a verdict line, and the kind where a line buffer has fewer: 80 hexadecimal plus 17.
 const LINE: usize = 33;
@@ -30,7 +26,7 @@ pub struct TextJudged {
 }
 
 // A refusal as one number.
-fn pack(r: Refused) -> u64
+pub fn pack(r: Refused) -> u64
     ensures { λ n. ⌜ n ≡ packed r ⌝ }
 {
     let reason = r.reason;
@@ -137,56 +133,4 @@ pub extern "C" fn trace_inferred(words: &[u32], sets: &mut [u64], line: &mut [u8
     }
     let r = verdict::inferred(words, sets);
     answer(line, r, (words.len() % 4294967296) as u32)
-}
-
-// A refusal of one side of a comparison as one number.
-fn pack_side(side: Side, r: Refused) -> u64
-    ensures { λ n. ⌜ n ≡ packedSide side r ⌝ }
-{
-    match side {
-        Side::Left => pack(r),
-        Side::Right => pack(r) + 1099511627776,
-    }
-}
-
-// Whether two recordings are equal.
-#[no_mangle]
-pub extern "C" fn trace_equal(left: &[u32], right: &[u32]) -> u64
-    ensures { λ n. ⌜ n ≡ equalAnswer (equalReply (now (left .entry)) (now (right .entry))) ⌝ }
-{
-    let q = equal::equal(left, right);
-    match q {
-        EqualReply::Equal => 1,
-        EqualReply::Different => 0,
-        EqualReply::Refused(side, x) => pack_side(side, x),
-    }
-}
-
-fn pack_order(q: OrderReply) -> u64
-    ensures { λ n. ⌜ n ≡ orderAnswer q ⌝ }
-{
-    match q {
-        OrderReply::Written(n) => n as u64,
-        OrderReply::Refused(x) => pack(x),
-    }
-}
-
-// The serial order with declared guards.
-#[no_mangle]
-pub extern "C" fn trace_serial_declared(list: &[u8], words: &[u32], out: &mut [u32]) -> u64
-    ensures reply { λ n. ⌜ n ≡ orderAnswer (declaredOrder (now (list .entry)) (now (words .entry)) (length (now (out .entry)))) ⌝ }
-    ensures contents { λ n. ⌜ now (out .exit) ≡ declaredOut (now (list .entry)) (now (words .entry)) (now (out .entry)) ⌝ }
-{
-    let q = order::declared(list, words, out);
-    pack_order(q)
-}
-
-// The serial order with inferred guards.
-#[no_mangle]
-pub extern "C" fn trace_serial_inferred(words: &[u32], out: &mut [u32]) -> u64
-    ensures reply { λ n. ⌜ n ≡ orderAnswer (inferredOrder (now (words .entry)) (length (now (out .entry)))) ⌝ }
-    ensures contents { λ n. ⌜ now (out .exit) ≡ inferredOut (now (words .entry)) (now (out .entry)) ⌝ }
-{
-    let q = order::inferred(words, out);
-    pack_order(q)
 }

@@ -22,6 +22,10 @@ extern "C" {
         line: *mut u8,
         line_len: usize,
     ) -> u8;
+}
+
+#[link(name = "traceorder", kind = "static")]
+extern "C" {
     fn trace_equal(left: *const u32, left_len: usize, right: *const u32, right_len: usize) -> u64;
     fn trace_serial_declared(
         list: *const u8,

@@ -1,6 +1,6 @@
 use borrow.Author.Needs.{needs}
-use Rattle.trace.proofs.trace_serial_inferred.Statement.{statement}
-use Rattle.trace.proofs.trace_serial_inferred.Tie as tie
+use Rattle.traceorder.proofs.trace_serial_inferred.Statement.{statement}
+use Rattle.traceorder.proofs.trace_serial_inferred.Tie as tie
 
 inferred-requires : tie.Need-inferred-requires
 inferred-requires c κs = search needs

@@ -1,7 +1,7 @@
 use mathlib.Core.Path.{sym, _∙_}
 use borrow.Author.Needs.{needs}
-use Rattle.trace.proofs.trace_equal.Statement.{statement}
-use Rattle.trace.proofs.trace_equal.Tie as tie
+use Rattle.traceorder.proofs.trace_equal.Statement.{statement}
+use Rattle.traceorder.proofs.trace_equal.Tie as tie
 
 equal-requires : tie.Need-equal-requires
 equal-requires c κs = search needs

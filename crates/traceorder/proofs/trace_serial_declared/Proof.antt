@@ -1,6 +1,6 @@
 use borrow.Author.Needs.{needs}
-use Rattle.trace.proofs.trace_serial_declared.Statement.{statement}
-use Rattle.trace.proofs.trace_serial_declared.Tie as tie
+use Rattle.traceorder.proofs.trace_serial_declared.Statement.{statement}
+use Rattle.traceorder.proofs.trace_serial_declared.Tie as tie
 
 declared-requires : tie.Need-declared-requires
 declared-requires c κs = search needs

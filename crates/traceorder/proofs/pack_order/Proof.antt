@@ -1,6 +1,6 @@
 use borrow.Author.Needs.{needs}
-use Rattle.trace.proofs.pack_order.Statement.{statement}
-use Rattle.trace.proofs.pack_order.Tie as tie
+use Rattle.traceorder.proofs.pack_order.Statement.{statement}
+use Rattle.traceorder.proofs.pack_order.Tie as tie
 
 enum-known-q : tie.Need-enum-known-q
 enum-known-q c = search needs

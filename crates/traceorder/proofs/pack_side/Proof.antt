@@ -1,8 +1,8 @@
 use native.Mathlib.Omega.{arith}
 use Rattle.frame.proofs.Laws.{number-small}
 use borrow.Author.Needs.{needs}
-use Rattle.trace.proofs.pack_side.Statement.{statement}
-use Rattle.trace.proofs.pack_side.Tie as tie
+use Rattle.traceorder.proofs.pack_side.Statement.{statement}
+use Rattle.traceorder.proofs.pack_side.Tie as tie
 
 enum-told : tie.Need-enum-told
 enum-told c = search needs

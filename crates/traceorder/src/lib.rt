@@ -1,0 +1,62 @@
+// Functions that C programs call: equality of recordings, and the serial order.
+use equal::EqualReply;
+use equal::Side;
+use frame::Refused;
+use order::OrderReply;
+ghost use mathlib.Core.Path.{_≡_};
+ghost use lib.ListN.{length};
+ghost use Rattle.equal.specs.Equal.{equalReply};
+ghost use Rattle.order.specs.Order.{declaredOrder, declaredOut, inferredOrder, inferredOut};
+ghost use Rattle.traceorder.specs.Answers.{packedSide, equalAnswer, orderAnswer};
+
+// A refusal of one side of a comparison as one number.
+fn pack_side(side: Side, r: Refused) -> u64
+    ensures { λ n. ⌜ n ≡ packedSide side r ⌝ }
+{
+    match side {
+        Side::Left => trace::pack(r),
+        Side::Right => trace::pack(r) + 1099511627776,
+    }
+}
+
+// Whether two recordings are equal.
+#[no_mangle]
+pub extern "C" fn trace_equal(left: &[u32], right: &[u32]) -> u64
+    ensures { λ n. ⌜ n ≡ equalAnswer (equalReply (now (left .entry)) (now (right .entry))) ⌝ }
+{
+    let q = equal::equal(left, right);
+    match q {
+        EqualReply::Equal => 1,
+        EqualReply::Different => 0,
+        EqualReply::Refused(side, x) => pack_side(side, x),
+    }
+}
+
+fn pack_order(q: OrderReply) -> u64
+    ensures { λ n. ⌜ n ≡ orderAnswer q ⌝ }
+{
+    match q {
+        OrderReply::Written(n) => n as u64,
+        OrderReply::Refused(x) => trace::pack(x),
+    }
+}
+
+// The serial order with declared guards.
+#[no_mangle]
+pub extern "C" fn trace_serial_declared(list: &[u8], words: &[u32], out: &mut [u32]) -> u64
+    ensures reply { λ n. ⌜ n ≡ orderAnswer (declaredOrder (now (list .entry)) (now (words .entry)) (length (now (out .entry)))) ⌝ }
+    ensures contents { λ n. ⌜ now (out .exit) ≡ declaredOut (now (list .entry)) (now (words .entry)) (now (out .entry)) ⌝ }
+{
+    let q = order::declared(list, words, out);
+    pack_order(q)
+}
+
+// The serial order with inferred guards.
+#[no_mangle]
+pub extern "C" fn trace_serial_inferred(words: &[u32], out: &mut [u32]) -> u64
+    ensures reply { λ n. ⌜ n ≡ orderAnswer (inferredOrder (now (words .entry)) (length (now (out .entry)))) ⌝ }
+    ensures contents { λ n. ⌜ now (out .exit) ≡ inferredOut (now (words .entry)) (now (out .entry)) ⌝ }
+{
+    let q = order::inferred(words, out);
+    pack_order(q)
+}
