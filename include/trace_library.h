@@ -8,6 +8,8 @@
  *
  * A uint64_t reply holds the refusal's number in the high 32 bits, 0 if there is none. The low
  * 32 bits hold the refusal's place, or without one the count answered. trace_equal adds to this.
+ *
+ * trace_equal and the two serial orders are in libtraceorder.a, the others in libtrace.a.
  */
 #ifndef TRACE_LIBRARY_H
 #define TRACE_LIBRARY_H
