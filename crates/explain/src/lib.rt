@@ -1,0 +1,453 @@
+// Answers in words, written into a lent buffer from a place on, as far as there is room. Each function replies the place behind what it wrote.
+use frame::Action;
+use frame::Decoded;
+use frame::Refusal;
+use frame::Refused;
+use output::put_byte;
+use output::put_decimal;
+use output::put_locks;
+use output::put_text;
+use reply::Kind;
+use reply::Mark;
+use reply::Reply;
+use reply::Verdict;
+use reply::Violation;
+ghost use mathlib.Core.Path.{_≡_};
+ghost use mathlib.Core.List.{_++_};
+ghost use lib.ListN.{length, getD};
+ghost use Rattle.frame.specs.Frame.{decodeWord};
+ghost use Rattle.output.specs.Output.{bytes, decimal, behind, written};
+ghost use Rattle.explain.specs.Explain.{sourceText, lineText, actionText, decodedText, piece, filled};
+ghost use Rattle.explain.specs.Explain.{refusalSentence, kindSentence, blockSentence, whySentence, placeOf};
+ghost use Rattle.explain.specs.Explain.{placeFacts, violationFacts, refusalText, violationText, verdictText, explanation};
+
+// What is spoken of.
+pub enum Source {
+    Recording,
+    GuardList,
+    Left,
+    Right,
+}
+
+// What a sentence can speak of: a place, its word, a thread, the block's begin and commit, the commit's word, and locks.
+pub struct Facts {
+    pub source: Source,
+    pub place: u32,
+    pub word: u32,
+    pub thread: u8,
+    pub begin: u32,
+    pub commit: u32,
+    pub by: u32,
+    pub locks: u64,
+}
+
+fn put_source(out: &mut [u8], at: usize, s: Source) -> usize
+    ensures place { λ r. ⌜ r ≡ behind (length (now (out .entry))) at (sourceText s) ⌝ }
+    ensures contents { λ r. ⌜ now (out .exit) ≡ written (now (out .entry)) at (sourceText s) ⌝ }
+{
+    match s {
+        Source::Recording => put_text(out, at, b"the recording"),
+        Source::GuardList => put_text(out, at, b"the guard list"),
+        Source::Left => put_text(out, at, b"the left recording"),
+        Source::Right => put_text(out, at, b"the right recording"),
+    }
+}
+
+// A text and a number.
+fn put_named(out: &mut [u8], at: usize, text: &[u8], n: u64) -> usize
+    ensures place { λ r. ⌜ r ≡ behind (length (now (out .entry))) at (now (text .entry) ++ decimal n) ⌝ }
+    ensures contents { λ r. ⌜ now (out .exit) ≡ written (now (out .entry)) at (now (text .entry) ++ decimal n) ⌝ }
+{
+    let p = put_text(out, at, text);
+    put_decimal(out, p, n)
+}
+
+// A place as a line, counted from 1, and as a place, counted from 0.
+fn put_line(out: &mut [u8], at: usize, place: u32) -> usize
+    ensures place { λ r. ⌜ r ≡ behind (length (now (out .entry))) at (lineText place) ⌝ }
+    ensures contents { λ r. ⌜ now (out .exit) ≡ written (now (out .entry)) at (lineText place) ⌝ }
+{
+    let n = place as u64;
+    let p = put_named(out, at, b"line ", n + 1);
+    let q = put_named(out, p, b" [", n);
+    put_byte(out, q, 93)
+}
+
+fn put_action(out: &mut [u8], at: usize, a: Action) -> usize
+    ensures place { λ r. ⌜ r ≡ behind (length (now (out .entry))) at (actionText a) ⌝ }
+    ensures contents { λ r. ⌜ now (out .exit) ≡ written (now (out .entry)) at (actionText a) ⌝ }
+{
+    match a {
+        Action::Acquire(l) => put_named(out, at, b"acquire of lock ", l.0 as u64),
+        Action::Release(l) => put_named(out, at, b"release of lock ", l.0 as u64),
+        Action::Read(v) => put_named(out, at, b"read of variable ", v.0 as u64),
+        Action::Write(v) => put_named(out, at, b"write of variable ", v.0 as u64),
+        Action::Begin => put_text(out, at, b"begin"),
+        Action::End => put_text(out, at, b"end"),
+    }
+}
+
+// What a word does.
+fn put_word(out: &mut [u8], at: usize, word: u32) -> usize
+    ensures place { λ r. ⌜ r ≡ behind (length (now (out .entry))) at (decodedText (decodeWord word)) ⌝ }
+    ensures contents { λ r. ⌜ now (out .exit) ≡ written (now (out .entry)) at (decodedText (decodeWord word)) ⌝ }
+{
+    let d = frame::decode(word);
+    match d {
+        Decoded::Frame(f) => {
+            let a = f.action;
+            put_action(out, at, a)
+        }
+        Decoded::Bad(r) => put_text(out, at, b"no frame"),
+    }
+}
+
+// One byte of a sentence, or what it stands for.
+fn put_piece(out: &mut [u8], at: usize, c: u8, f: Facts) -> usize
+    ensures place { λ r. ⌜ r ≡ behind (length (now (out .entry))) at (piece f c) ⌝ }
+    ensures contents { λ r. ⌜ now (out .exit) ≡ written (now (out .entry)) at (piece f c) ⌝ }
+{
+    match c {
+        b'@' => put_line(out, at, f.place),
+        b'<' => put_line(out, at, f.begin),
+        b'>' => put_line(out, at, f.commit),
+        b'%' => {
+            let s = f.source;
+            put_source(out, at, s)
+        }
+        b'*' => put_word(out, at, f.word),
+        b'^' => put_word(out, at, f.by),
+        b'&' => put_decimal(out, at, f.thread as u64),
+        b'$' => put_decimal(out, at, (f.word % 65536) as u64),
+        b'~' => put_locks(out, at, f.locks),
+        b'#' => put_decimal(out, at, f.place as u64),
+        _ => put_byte(out, at, c),
+    }
+}
+
+// A sentence with its marks filled in.
+fn say(out: &mut [u8], at: usize, sentence: &[u8], f: Facts) -> usize
+    ensures place { λ r. ⌜ r ≡ behind (length (now (out .entry))) at (filled f (now (sentence .entry))) ⌝ }
+    ensures contents { λ r. ⌜ now (out .exit) ≡ written (now (out .entry)) at (filled f (now (sentence .entry))) ⌝ }
+{
+    let mut p = at;
+    let mut i = 0;
+    while i < sentence.len() {
+        p = put_piece(out, p, sentence[i], f);
+        i += 1;
+    }
+    p
+}
+
+// The sentence of a refusal.
+fn say_refusal(out: &mut [u8], at: usize, reason: Refusal, f: Facts) -> usize
+    ensures place { λ r. ⌜ r ≡ behind (length (now (out .entry))) at (filled f (bytes (refusalSentence reason))) ⌝ }
+    ensures contents { λ r. ⌜ now (out .exit) ≡ written (now (out .entry)) at (filled f (bytes (refusalSentence reason))) ⌝ }
+{
+    match reason {
+        Refusal::Line => say(
+            out,
+            at,
+            b"refused: number 1, @ of % is not eight digits 0-9 A-F and one LF; write it so, without blanks, lower case or CR, and end the last line.\n",
+            f,
+        ),
+        Refusal::TooLong => say(
+            out,
+            at,
+            b"refused: number 2, % has more than 4096 lines; cut it down to 4096.\n",
+            f,
+        ),
+        Refusal::WordBuffer => say(
+            out,
+            at,
+            b"refused: number 3, the word buffer has fewer than # words; lend one for each line.\n",
+            f,
+        ),
+        Refusal::Operation => say(
+            out,
+            at,
+            b"refused: number 4, @ of % has an operation other than 01 to 06; mend its digits 1 and 2.\n",
+            f,
+        ),
+        Refusal::Thread => say(
+            out,
+            at,
+            b"refused: number 5, @ of % has a thread above 1F; mend its digits 3 and 4.\n",
+            f,
+        ),
+        Refusal::Object => say(
+            out,
+            at,
+            b"refused: number 6, @ of % has an object out of range; locks go up to 003F, variables up to 03FF, and a begin or an end has 0000.\n",
+            f,
+        ),
+        Refusal::LockTaken => say(
+            out,
+            at,
+            b"refused: number 7, @ of %, * by thread &, takes a lock that is held already; release it before this line.\n",
+            f,
+        ),
+        Refusal::LockNotHeld => say(
+            out,
+            at,
+            b"refused: number 8, @ of %, * by thread &, lets go a lock that this thread does not hold; acquire it first or drop the line.\n",
+            f,
+        ),
+        Refusal::TooDeep => say(
+            out,
+            at,
+            b"refused: number 9, @ of % is a begin inside 15 open blocks of thread &; nest at most 15.\n",
+            f,
+        ),
+        Refusal::NoOpenBlock => say(
+            out,
+            at,
+            b"refused: number 10, @ of % is an end where thread & has no open block; add its begin or drop the line.\n",
+            f,
+        ),
+        Refusal::GuardRange => say(
+            out,
+            at,
+            b"refused: number 11, @ of % names a variable above 03FF or a lock above 003F; mend the number.\n",
+            f,
+        ),
+        Refusal::GuardRepeated => say(
+            out,
+            at,
+            b"refused: number 12, @ of % names a variable that an earlier line names; keep one of the two.\n",
+            f,
+        ),
+        Refusal::Irreducible => say(
+            out,
+            at,
+            b"refused: number 13, % is not reducible, so there is no serial order; @ goes wrong, and explain says why.\n",
+            f,
+        ),
+        Refusal::OpenBlock => say(
+            out,
+            at,
+            b"refused: number 14, the block that begins at @ of % is open at the end; add its end.\n",
+            f,
+        ),
+        Refusal::OutputBuffer => say(
+            out,
+            at,
+            b"refused: number 15, the output has fewer than # words; lend one for each frame.\n",
+            f,
+        ),
+        Refusal::SetTable => say(
+            out,
+            at,
+            b"refused: number 16, the table of candidate sets has fewer than 1024 entries; lend 1024.\n",
+            f,
+        ),
+        Refusal::LineBuffer => say(
+            out,
+            at,
+            b"refused: number 17, the line buffer has fewer than 33 bytes; lend 33.\n",
+            f,
+        ),
+    }
+}
+
+// What happened.
+fn say_kind(out: &mut [u8], at: usize, kind: Kind, f: Facts) -> usize
+    ensures place { λ r. ⌜ r ≡ behind (length (now (out .entry))) at (filled f (bytes (kindSentence kind))) ⌝ }
+    ensures contents { λ r. ⌜ now (out .exit) ≡ written (now (out .entry)) at (filled f (bytes (kindSentence kind))) ⌝ }
+{
+    match kind {
+        Kind::GuardNotHeld => say(
+            out,
+            at,
+            b"violation: kind 1, guard not held, by thread &.\n",
+            f,
+        ),
+        Kind::UnprotectedAfterCommit => say(
+            out,
+            at,
+            b"violation: kind 2, unprotected access after commit, by thread &.\n",
+            f,
+        ),
+        Kind::AcquireAfterCommit => say(
+            out,
+            at,
+            b"violation: kind 3, acquire after commit, by thread &.\n",
+            f,
+        ),
+        Kind::SetEmptied => say(
+            out,
+            at,
+            b"violation: kind 4, candidate set emptied, by thread &.\n",
+            f,
+        ),
+    }
+}
+
+// The thread's block.
+fn say_block(out: &mut [u8], at: usize, begin: Mark, commit: Mark, f: Facts) -> usize
+    ensures place { λ r. ⌜ r ≡ behind (length (now (out .entry))) at (filled f (bytes (blockSentence begin commit))) ⌝ }
+    ensures contents { λ r. ⌜ now (out .exit) ≡ written (now (out .entry)) at (filled f (bytes (blockSentence begin commit))) ⌝ }
+{
+    match begin {
+        Mark::Absent => say(out, at, b"  The thread is in no block.\n", f),
+        Mark::At(b) => match commit {
+            Mark::Absent => say(
+                out,
+                at,
+                b"  The block begins at < and has not committed.\n",
+                f,
+            ),
+            Mark::At(c) => say(
+                out,
+                at,
+                b"  The block begins at <.\n  It commits at >: ^.\n",
+                f,
+            ),
+        },
+    }
+}
+
+// Why it goes wrong.
+fn say_why(out: &mut [u8], at: usize, kind: Kind, f: Facts) -> usize
+    ensures place { λ r. ⌜ r ≡ behind (length (now (out .entry))) at (filled f (bytes (whySentence kind))) ⌝ }
+    ensures contents { λ r. ⌜ now (out .exit) ≡ written (now (out .entry)) at (filled f (bytes (whySentence kind))) ⌝ }
+{
+    match kind {
+        Kind::GuardNotHeld => say(
+            out,
+            at,
+            b"  The guard of variable $ is lock ~, and thread & does not hold it: another thread may access the variable at the same time.\n",
+            f,
+        ),
+        Kind::UnprotectedAfterCommit => say(
+            out,
+            at,
+            b"  Variable $ has no guard: another thread may change it, or what the block accessed before, between these lines.\n",
+            f,
+        ),
+        Kind::AcquireAfterCommit => say(
+            out,
+            at,
+            b"  A block takes no lock after its commit: between these lines another thread may change what the block has read or written.\n",
+            f,
+        ),
+        Kind::SetEmptied => say(
+            out,
+            at,
+            b"  Locks left that may guard variable $: ~. Thread & holds none of them, so no one lock guards every access of the variable.\n",
+            f,
+        ),
+    }
+}
+
+fn say_violation(out: &mut [u8], at: usize, f: Facts, v: Violation) -> usize
+    ensures place { λ r. ⌜ r ≡ behind (length (now (out .entry))) at (violationText f v) ⌝ }
+    ensures contents { λ r. ⌜ now (out .exit) ≡ written (now (out .entry)) at (violationText f v) ⌝ }
+{
+    let kind = v.kind;
+    let begin = v.begin;
+    let commit = v.commit;
+    let p = say_kind(out, at, kind, f);
+    let q = say_block(out, p, begin, commit, f);
+    let r = say(out, q, b"  It goes wrong at @: *.\n", f);
+    say_why(out, r, kind, f)
+}
+
+// The word at a place, and 0 outside the recording.
+fn word_at(words: &[u32], place: u32) -> u32
+    ensures { λ w. ⌜ w ≡ getD (now (words .entry)) place 0 ⌝ }
+{
+    let i = place as usize;
+    if i < words.len() {
+        return words[i];
+    }
+    0
+}
+
+fn place_of(m: Mark) -> u32
+    ensures { λ n. ⌜ n ≡ placeOf m ⌝ }
+{
+    match m {
+        Mark::At(i) => i,
+        Mark::Absent => 0,
+    }
+}
+
+// What is known of a place of a recording alone.
+fn place_facts(source: Source, words: &[u32], place: u32) -> Facts
+    ensures { λ f. ⌜ f ≡ placeFacts source (now (words .entry)) place ⌝ }
+{
+    let word = word_at(words, place);
+    Facts {
+        source: source,
+        place: place,
+        word: word,
+        thread: (word / 65536 % 256) as u8,
+        begin: 0,
+        commit: 0,
+        by: 0,
+        locks: 0,
+    }
+}
+
+// What is known of a violation.
+fn violation_facts(source: Source, words: &[u32], v: Violation) -> Facts
+    ensures { λ f. ⌜ f ≡ violationFacts source (now (words .entry)) v ⌝ }
+{
+    let begin = v.begin;
+    let commit = v.commit;
+    let c = place_of(commit);
+    Facts {
+        source: source,
+        place: v.frame,
+        word: word_at(words, v.frame),
+        thread: v.thread.0,
+        begin: place_of(begin),
+        commit: c,
+        by: word_at(words, c),
+        locks: v.locks,
+    }
+}
+
+// A refusal in words.
+pub fn explain_refusal(
+    out: &mut [u8],
+    at: usize,
+    source: Source,
+    words: &[u32],
+    r: Refused,
+) -> usize
+    ensures place { λ p. ⌜ p ≡ behind (length (now (out .entry))) at (refusalText source (now (words .entry)) r) ⌝ }
+    ensures contents { λ p. ⌜ now (out .exit) ≡ written (now (out .entry)) at (refusalText source (now (words .entry)) r) ⌝ }
+{
+    let reason = r.reason;
+    let f = place_facts(source, words, r.place);
+    say_refusal(out, at, reason, f)
+}
+
+// The answer to a recording of so many frames, in words.
+pub fn explain(
+    out: &mut [u8],
+    at: usize,
+    source: Source,
+    words: &[u32],
+    r: Reply,
+    frames: u32,
+) -> usize
+    ensures place { λ p. ⌜ p ≡ behind (length (now (out .entry))) at (explanation source (now (words .entry)) r frames) ⌝ }
+    ensures contents { λ p. ⌜ now (out .exit) ≡ written (now (out .entry)) at (explanation source (now (words .entry)) r frames) ⌝ }
+{
+    match r {
+        Reply::Refused(x) => explain_refusal(out, at, source, words, x),
+        Reply::Judged(v) => match v {
+            Verdict::Reducible => {
+                let f = place_facts(source, words, frames);
+                say(out, at, b"reducible: no frame goes wrong; frames: #.\n", f)
+            }
+            Verdict::Violated(w) => {
+                let f = violation_facts(source, words, w);
+                say_violation(out, at, f, w)
+            }
+        },
+    }
+}

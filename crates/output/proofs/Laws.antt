@@ -1,0 +1,76 @@
+-- Laws of written text: nothing, one byte, and one text behind another.
+use Prim.Native.Nat.{ℕ, zero, suc, _+_, _/_, _%_, _<_, _≤_}
+use mathlib.Core.Path.{_≡_, refl, sym, ap, _∙_}
+use mathlib.Core.List.{List, [], _∷_, _++_}
+use native.Mathlib.Omega.{arith}
+use native.Mathlib.Numerals.{add-one}
+use lib.ListN.{length, set, drop, length-set}
+use lib.Seq.{drop-cons, drop-set-lt, getD-set-same, append-snoc, lt-length-set}
+use borrow.Author.Tests.{lt-ltb, le-ltb, ne-eqb}
+use Rattle.output.specs.Output.{after, behind, written, decimalDigits}
+
+-- writing t into b from `at` on leaves b' and the place p
+pub record Put (b : List ℕ) (at : ℕ) (t : List ℕ) (b' : List ℕ) (p : ℕ) : Type 0 where
+  pub place : p ≡ behind (length b) at t
+  pub contents : b' ≡ written b at t
+
+pub after-room : (n at : ℕ) → at < n → after n at ≡ at + 1
+unfolding after
+after-room n at h = rw (lt-ltb at n h) (sym (add-one at))
+
+pub after-full : (n at : ℕ) → n ≤ at → after n at ≡ at
+unfolding after
+after-full n at h = rw (le-ltb at n h)
+
+pub length-written : (b : List ℕ) (at : ℕ) (t : List ℕ) → length (written b at t) ≡ length b
+unfolding written
+length-written b at [] = refl
+length-written b at (c ∷ t) = length-written (set b at c) (after (length b) at) t ∙ length-set b at c
+
+pub put-none : (b : List ℕ) (at : ℕ) → Put b at [] b at
+unfolding behind written
+put-none b at = record { place = refl; contents = refl }
+
+behind-more : (n at : ℕ) (s t : List ℕ) → behind n at (s ++ t) ≡ behind n (behind n at s) t
+unfolding behind
+behind-more n at [] t = refl
+behind-more n at (c ∷ s) t = behind-more n (after n at) s t
+
+written-more : (b : List ℕ) (at : ℕ) (s t : List ℕ) → written b at (s ++ t) ≡ written (written b at s) (behind (length b) at s) t
+unfolding behind written
+written-more b at [] t = refl
+written-more b at (c ∷ s) t =
+    written-more (set b at c) (after (length b) at) s t
+    ∙ ap (λ (n : ℕ). written (written (set b at c) (after (length b) at) s) (behind n (after (length b) at) s) t) (length-set b at c)
+
+-- one text behind another
+pub put-more : {b : List ℕ} {at : ℕ} {s t o : List ℕ} {q : ℕ} {b' : List ℕ} {p : ℕ} → Put b at s o q → Put o q t b' p → Put b at (s ++ t) b' p
+put-more {b} {at} {s} {t} {o} {q} {b'} {p} x y = record {
+  place = y .place ∙ rw (x .contents, x .place, length-written b at s) (sym (behind-more (length b) at s t));
+  contents = y .contents ∙ rw (x .contents, x .place) (sym (written-more b at s t));
+}
+
+-- the place in a buffer of the same length
+pub put-length : {b : List ℕ} {at : ℕ} {t b' : List ℕ} {p : ℕ} → Put b at t b' p → length b' ≡ length b
+put-length {b} {at} {t} x = ap length (x .contents) ∙ length-written b at t
+
+-- one more digit stored in front of those stored before
+pub digit-stored : (d : List ℕ) (j v : ℕ) → j < length d → 0 < v
+    → decimalDigits (j + 1) v ++ drop (j + 1) d ≡ decimalDigits j (v / 10) ++ drop j (set d j (v % 10 + 48))
+unfolding decimalDigits
+digit-stored d j v h p =
+    let x = v % 10 + 48 in
+    let e : drop j (set d j x) ≡ x ∷ drop (suc j) d =
+    drop-cons (set d j x) j 0 (lt-length-set d j x h) ∙ rw (getD-set-same d j x 0 h, drop-set-lt (suc j) d j x (omega arith)) in
+    rw (e, add-one j, ne-eqb v 0 (λ (z : v ≡ 0). absurd (omega arith))) (append-snoc (decimalDigits j (v / 10)) x (drop (suc j) d))
+
+-- no digits are left of 0
+pub digits-none : (k v : ℕ) → v ≤ 0 → decimalDigits k v ≡ []
+unfolding decimalDigits
+digits-none zero v h = refl
+digits-none (suc k) v h = let e : v ≡ 0 = omega arith in rw e
+
+-- no place is left for digits
+pub digits-full : (k v : ℕ) → k ≡ 0 → decimalDigits k v ≡ []
+unfolding decimalDigits
+digits-full k v e = rw e

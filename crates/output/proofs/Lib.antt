@@ -1,0 +1,2 @@
+-- Laws of written text that crates above cite.
+pub mod Laws
