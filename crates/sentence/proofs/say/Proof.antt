@@ -8,9 +8,9 @@ use borrow.Author.Needs.{needs}
 use lib.ListN.{length, drop, getD, drop-of-length-le}
 use lib.Seq.{drop-cons}
 use Rattle.output.proofs.Laws.{Put, put-none, put-more}
-use Rattle.explain.specs.Explain.{filled}
-use Rattle.explain.proofs.say.Statement.{statement}
-use Rattle.explain.proofs.say.Tie as tie
+use Rattle.sentence.specs.Sentence.{filled}
+use Rattle.sentence.proofs.say.Statement.{statement}
+use Rattle.sentence.proofs.say.Tie as tie
 
 abbrev Inv-loop : tie.InvT-loop
 Inv-loop out₀ at sentence f p₀ i₀ out p i =

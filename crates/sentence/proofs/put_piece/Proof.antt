@@ -1,9 +1,9 @@
 -- One case for each mark; any other byte stands for itself.
 use borrow.Author.Needs.{needs}
 use borrow.Author.Tests.{ne-eqb}
-use Rattle.explain.specs.Explain.{piece}
-use Rattle.explain.proofs.put_piece.Statement.{statement}
-use Rattle.explain.proofs.put_piece.Tie as tie
+use Rattle.sentence.specs.Sentence.{piece}
+use Rattle.sentence.proofs.put_piece.Statement.{statement}
+use Rattle.sentence.proofs.put_piece.Tie as tie
 
 put-line-requires : tie.Need-put-line-requires
 put-line-requires c κs = search needs

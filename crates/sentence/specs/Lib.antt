@@ -1,0 +1,2 @@
+-- What a reader must believe of sentences.
+pub mod Sentence

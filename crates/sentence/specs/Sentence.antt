@@ -1,0 +1,58 @@
+-- Sentences: texts with marks in them. `piece` says what each mark stands for. Lines count from 1 and places, in brackets, from 0.
+use Prim.Native.Nat.{ℕ, _+_, _%_}
+use Prim.Native.Char.{code}
+use mathlib.Core.Bool.{cond}
+use mathlib.Core.List.{List, [], _∷_, _++_}
+use lib.Dec.{eqb}
+use Rattle.frame.specs.Frame.{decodeWord}
+use Rattle.frame.specs.declared.Action.{Action}
+use Rattle.frame.specs.declared.Action.the-variants as action
+use Rattle.frame.specs.declared.Decoded.{Decoded}
+use Rattle.frame.specs.declared.Decoded.the-variants as decoded
+use Rattle.output.specs.Output.{bytes, decimal, locksText}
+use Rattle.sentence.specs.declared.Source.{Source}
+use Rattle.sentence.specs.declared.Source.the-variants as source
+use Rattle.sentence.specs.declared.Facts.{Facts}
+
+unfoldable pub sourceText : Source → List ℕ
+sourceText source.Recording = bytes "the recording"
+sourceText source.GuardList = bytes "the guard list"
+sourceText source.Left = bytes "the left recording"
+sourceText source.Right = bytes "the right recording"
+
+-- "lines counted from 1 for people, places from 0 in brackets"
+unfoldable pub lineText : ℕ → List ℕ
+lineText p = bytes "line " ++ (decimal (p + 1) ++ (bytes " [" ++ (decimal p ++ bytes "]")))
+
+unfoldable pub actionText : Action → List ℕ
+actionText (action.Acquire l) = bytes "acquire of lock " ++ decimal (l .0)
+actionText (action.Release l) = bytes "release of lock " ++ decimal (l .0)
+actionText (action.Read v) = bytes "read of variable " ++ decimal (v .0)
+actionText (action.Write v) = bytes "write of variable " ++ decimal (v .0)
+actionText action.Begin = bytes "begin"
+actionText action.End = bytes "end"
+
+-- What a word does.
+unfoldable pub decodedText : Decoded → List ℕ
+decodedText (decoded.Frame f) = actionText (f .action)
+decodedText (decoded.Bad r) = bytes "no frame"
+
+-- What a byte of a sentence stands for.
+unfoldable pub piece : Facts → ℕ → List ℕ
+piece f c =
+    cond (eqb c (code "@")) (lineText (f .place))
+    (cond (eqb c (code "<")) (lineText (f .begin))
+    (cond (eqb c (code ">")) (lineText (f .commit))
+    (cond (eqb c (code "%")) (sourceText (f .source))
+    (cond (eqb c (code "*")) (decodedText (decodeWord (f .word)))
+    (cond (eqb c (code "^")) (decodedText (decodeWord (f .by)))
+    (cond (eqb c (code "&")) (decimal (f .thread))
+    (cond (eqb c (code "$")) (decimal (f .word % 65536))
+    (cond (eqb c (code "~")) (locksText (f .locks))
+    (cond (eqb c (code "#")) (decimal (f .place))
+    (c ∷ []))))))))))
+
+-- A sentence with its marks filled in.
+unfoldable pub filled : Facts → List ℕ → List ℕ
+filled f [] = []
+filled f (c ∷ t) = piece f c ++ filled f t
