@@ -9,7 +9,7 @@ use lib.ListN.{length, replicate, take, drop, set, length-append, take-append-dr
 use lib.Seq.{drop-cons, take-set-le, drop-set-lt, getD-set-same, append-snoc, lt-length-set, take-at, drop-at, drop-drop}
 use Rattle.reply.specs.declared.Reply.{Reply}
 use Rattle.line.specs.declared.Fields.{Fields}
-use Rattle.line.specs.Line.{byteOf, digits, pasted, replyFields, placeWidth, fieldsLine, verdictLine}
+use Rattle.line.specs.Line.{byteOf, digits, pasted, replyFields, placeWidth, fieldsLine, verdictLine, wordLine}
 
 -- as many digits as asked for
 pub length-digits : (n v : ℕ) → length (digits n v) ≡ n
@@ -70,3 +70,8 @@ fields-written f a b d e g l p q r t u v =
     let e4 = pasted-next s y3 _ d e (4 + placeWidth) placeWidth (simp (length-append, length-digits)) e3 t in
     let e5 = pasted-next s y4 _ e g (4 + 2 * placeWidth) placeWidth (simp (length-append, length-digits)) e4 u in
     pasted-next s y5 _ g l (4 + 3 * placeWidth) 16 (simp (length-append, length-digits)) e5 v
+
+-- a word's line has nine bytes
+pub length-word-line : (w : ℕ) → length (wordLine w) ≡ 9
+unfolding wordLine
+length-word-line w = simp (length-append, length-digits)

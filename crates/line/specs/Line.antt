@@ -65,3 +65,7 @@ fieldsLine f =
 -- The line of a reply to a recording of n frames.
 abbrev pub verdictLine : Reply → ℕ → List ℕ
 verdictLine r n = fieldsLine (replyFields r n)
+
+-- "On a line it is eight digits 0-9 A-F, top digit first, then one LF."
+unfoldable pub wordLine : ℕ → List ℕ
+wordLine w = digits 8 w ++ (10 ∷ [])

@@ -8,7 +8,7 @@ ghost use mathlib.Core.Path.{_≡_};
 ghost use mathlib.Core.List.{_++_};
 ghost use Prim.Native.Nat.{_+_, _<_, _≤_};
 ghost use lib.ListN.{length, drop};
-ghost use Rattle.line.specs.Line.{byteOf, digits, pasted, markField, bareFields, replyFields, fieldsLine, verdictLine};
+ghost use Rattle.line.specs.Line.{byteOf, digits, pasted, markField, bareFields, replyFields, fieldsLine, verdictLine, wordLine};
 
 // The digits of a frame, a begin and a commit.
 const PLACE: usize = 4;
@@ -146,4 +146,13 @@ pub fn put_line(out: &mut [u8], l: [u8; 33])
         out[i] = l[i];
         i += 1;
     }
+}
+
+// The line of a word.
+pub fn word_line(w: u32) -> [u8; 9]
+    ensures { λ l. ⌜ l ≡ wordLine w ⌝ }
+{
+    let mut line = [10u8; 9];
+    put(&mut line, 0, 8, w as u64);
+    line
 }

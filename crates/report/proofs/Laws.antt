@@ -1,0 +1,80 @@
+-- Laws of the tool's answers: the words of a text that is read, and of a serial order that is written.
+use Prim.Native.Nat.{ℕ, _≤_}
+use mathlib.Core.Path.{_≡_, refl}
+use mathlib.Core.Bool.{Bool, true, false}
+use mathlib.Core.List.{List}
+use native.Mathlib.Omega.{arith}
+use borrow.Author.Tests.{ltb-true, ltb-false}
+use lib.Dec.{ltb}
+use lib.ListN.{length, take, drop, length-append}
+use lib.Seq.{take-at}
+use Rattle.frame.proofs.Shared.{never}
+use Rattle.text.specs.Text.{wordsTo}
+use Rattle.guards.specs.Guards.{guardsRead}
+use Rattle.guards.specs.declared.GuardsReply.{GuardsReply}
+use Rattle.guards.specs.declared.GuardsReply.the-variants as guards
+use Rattle.guards.proofs.Laws.{table-length}
+use Rattle.reply.specs.declared.Mark.{Mark}
+use Rattle.reply.specs.declared.Mark.the-variants as mark
+use Rattle.reply.specs.declared.Reply.{Reply}
+use Rattle.reply.specs.declared.Reply.the-variants as reply
+use Rattle.reply.specs.declared.Verdict.the-variants as verdict
+use Rattle.pass.specs.Pass.{fullSets, judgement}
+use Rattle.verdict.specs.Verdict.{inferredGuards}
+use Rattle.serial.specs.Order.{serialWords}
+use Rattle.serial.specs.Walk.{endPoint, firstOpen}
+use Rattle.demand.proofs.Demand.{order-length, closed-open}
+use Rattle.order.specs.Order.{reducibleReply, irreducible, onList, orderReply, orderOut, outAfter, declaredOrder, declaredOut, inferredOrder, inferredOut}
+use Rattle.order.specs.declared.OrderReply.{OrderReply}
+use Rattle.order.specs.declared.OrderReply.the-variants as order
+use Rattle.order.proofs.Laws.{says-reducible, not-reducible, still-open, no-room, is-written, is-written-out}
+use Rattle.report.specs.Report.{WordsRead, WordsOrdered}
+use Rattle.report.specs.declared.Opened.{Opened}
+use Rattle.report.specs.declared.Opened.the-variants as opened
+
+-- a text that is read
+pub words-read : (o : Opened) (n : ℕ) (s ws : List ℕ) → o ≡ opened.Frames n → WordsRead o s ws → (n ≤ length ws) × (take n ws ≡ wordsTo s n)
+words-read o n s ws e w = rw e at w
+
+irreducible-ordered : (r : Reply) (serial out : List ℕ) → reducibleReply r ≡ false → WordsOrdered (irreducible r) serial out
+irreducible-ordered (reply.Refused x) serial out e = tt
+irreducible-ordered (reply.Judged verdict.Reducible) serial out e = let z : _≡_ {A = ℕ} 0 1 = cc in never z
+irreducible-ordered (reply.Judged (verdict.Violated v)) serial out e = tt
+
+-- a serial order that is written, under a table of guards
+pub order-ordered : (g ws out : List ℕ) → length g ≡ 1024 → WordsOrdered (orderReply g ws (length out)) (serialWords g ws) (orderOut g ws out)
+order-ordered g ws out long = go (reducibleReply (judgement g fullSets ws .reply)) refl (firstOpen (endPoint g ws)) refl (ltb (length out) (length ws)) refl
+  where
+    go : (b : Bool) → reducibleReply (judgement g fullSets ws .reply) ≡ b → (m : Mark) → firstOpen (endPoint g ws) ≡ m
+        → (d : Bool) → ltb (length out) (length ws) ≡ d → WordsOrdered (orderReply g ws (length out)) (serialWords g ws) (orderOut g ws out)
+    go false e m o d t = rw (not-reducible g ws out e) (irreducible-ordered (judgement g fullSets ws .reply) (serialWords g ws) (orderOut g ws out) e)
+    go true e (mark.At b) o d t = rw (still-open g ws out e b o) tt
+    go true e mark.Absent o true t = rw (no-room g ws out e o (ltb-true (length out) (length ws) t)) tt
+    go true e mark.Absent o false t =
+        let room = ltb-false (length out) (length ws) t in
+        let r = says-reducible (judgement g fullSets ws .reply) e in
+        let n : length (serialWords g ws) ≡ length ws = order-length g ws long r (closed-open g ws r o) in
+        rw (is-written g ws out e o room, is-written-out g ws out e o room) (
+          rw (length-append (serialWords g ws) (drop (length ws) out)) (omega (arith, n)),
+          take-at (serialWords g ws) (drop (length ws) out) (length ws) n,
+        )
+
+-- with declared guards
+pub declared-ordered : (list ws out : List ℕ)
+    → WordsOrdered (declaredOrder list ws (length out)) (serialWords (guardsRead list .table) ws) (declaredOut list ws out)
+unfolding declaredOrder declaredOut orderOut
+declared-ordered list ws out = go (guardsRead list .reply) (order-ordered (guardsRead list .table) ws out (table-length list))
+  where
+    go : (q : GuardsReply) → WordsOrdered (orderReply (guardsRead list .table) ws (length out)) (serialWords (guardsRead list .table) ws) (orderOut (guardsRead list .table) ws out)
+        → WordsOrdered (onList q (orderReply (guardsRead list .table) ws (length out))) (serialWords (guardsRead list .table) ws) (outAfter (onList q (orderReply (guardsRead list .table) ws (length out))) (serialWords (guardsRead list .table) ws) out)
+    go (guards.Lines n) h = h
+    go (guards.Refused x) h = tt
+
+-- with inferred guards
+pub inferred-ordered : (ws out : List ℕ) → WordsOrdered (inferredOrder ws (length out)) (serialWords inferredGuards ws) (inferredOut ws out)
+unfolding inferredOrder inferredOut inferredGuards
+inferred-ordered ws out = order-ordered inferredGuards ws out refl
+
+-- a serial order that is written
+pub words-ordered : (q : OrderReply) (n : ℕ) (serial out : List ℕ) → q ≡ order.Written n → WordsOrdered q serial out → (n ≤ length out) × (take n out ≡ serial)
+words-ordered q n serial out e w = rw e at w

@@ -1,0 +1,2 @@
+-- Laws of the tool's answers.
+pub mod Laws
