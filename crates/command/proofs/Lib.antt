@@ -1,0 +1,2 @@
+-- Laws of texts that are the same.
+pub mod Laws

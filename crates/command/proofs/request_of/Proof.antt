@@ -1,0 +1,89 @@
+-- Help, and one case for each command.
+use mathlib.Core.Path.{sym, _∙_}
+use borrow.Author.Needs.{needs}
+use borrow.Author.Tests.{eq-eqb, ne-eqb, lt-ltb, le-ltb}
+use Rattle.command.specs.Command.{requestOf}
+use Rattle.command.proofs.request_of.Statement.{statement}
+use Rattle.command.proofs.request_of.Tie as tie
+
+returns : tie.Need-returns
+unfolding requestOf
+returns c = rw (lt-ltb _ _ (c .if1 .taken))
+
+command-of-requires : tie.Need-command-of-requires
+command-of-requires c κs = search needs
+
+enum-told : tie.Need-enum-told
+enum-told c = search needs
+
+judge-requires : tie.Need-judge-requires
+judge-requires c κs = search needs
+
+enum-told-2 : tie.Need-enum-told-2
+enum-told-2 c = search needs
+
+judge-requires-2 : tie.Need-judge-requires-2
+judge-requires-2 c κs = search needs
+
+enum-told-3 : tie.Need-enum-told-3
+enum-told-3 c = search needs
+
+judge-requires-3 : tie.Need-judge-requires-3
+judge-requires-3 c κs = search needs
+
+enum-told-4 : tie.Need-enum-told-4
+enum-told-4 c = search needs
+
+returns-2 : tie.Need-returns-2
+unfolding requestOf
+returns-2 c =
+    rw (le-ltb _ _ (c .before .before .before .before .if1 .left), sym (c .before .before .before .command-of .ensures) ∙ c .before .enum-told4 .given .1, eq-eqb _ _ (c .if2 .taken))
+
+enum-told-5 : tie.Need-enum-told-5
+enum-told-5 c = search needs
+
+returns-3 : tie.Need-returns-3
+unfolding requestOf
+returns-3 c =
+    rw (le-ltb _ _ (c .before .before .before .before .if1 .left), sym (c .before .before .before .command-of .ensures) ∙ c .before .enum-told .given .1) (c .judge .ensures)
+
+returns-4 : tie.Need-returns-4
+unfolding requestOf
+returns-4 c =
+    rw (le-ltb _ _ (c .before .before .before .before .if1 .left), sym (c .before .before .before .command-of .ensures) ∙ c .before .enum-told2 .given .1) (c .judge2 .ensures)
+
+returns-5 : tie.Need-returns-5
+unfolding requestOf
+returns-5 c =
+    rw (le-ltb _ _ (c .before .before .before .before .if1 .left), sym (c .before .before .before .command-of .ensures) ∙ c .before .enum-told3 .given .1) (c .judge3 .ensures)
+
+returns-6 : tie.Need-returns-6
+unfolding requestOf
+returns-6 c =
+    rw (le-ltb _ _ (c .before .before .before .before .if1 .left), sym (c .before .before .before .command-of .ensures) ∙ c .before .enum-told4 .given .1, ne-eqb _ _ (c .if2 .left))
+
+returns-7 : tie.Need-returns-7
+unfolding requestOf
+returns-7 c =
+    rw (le-ltb _ _ (c .before .before .before .if1 .left), sym (c .before .before .command-of .ensures) ∙ c .enum-told5 .given .1)
+
+pub request-of-spec : {M : Type 1} → statement M
+request-of-spec =
+    tie.close
+    (tie.spec
+    returns
+    command-of-requires
+    enum-told
+    judge-requires
+    enum-told-2
+    judge-requires-2
+    enum-told-3
+    judge-requires-3
+    enum-told-4
+    returns-2
+    enum-told-5
+    returns-3
+    returns-4
+    returns-5
+    returns-6
+    returns-7)

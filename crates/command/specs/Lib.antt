@@ -1,0 +1,2 @@
+-- What a reader must believe of the tool's arguments.
+pub mod Command

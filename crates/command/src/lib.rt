@@ -1,0 +1,93 @@
+// What the words of a command line ask for.
+ghost use mathlib.Core.Path.{_≡_};
+ghost use Rattle.output.specs.Output.{bytes};
+ghost use Rattle.command.specs.Command.{same as sameText, commandOf, judging, requestOf};
+
+pub enum Command {
+    Verdict,
+    Serial,
+    Explain,
+    Equal,
+    Unknown,
+}
+
+// Help, no such command, a command with the wrong words, a judgement with declared guards or without, or a comparison.
+pub enum Request {
+    Help,
+    Unknown,
+    Misused(Command),
+    Judge(Command, bool),
+    Compare,
+}
+
+// Whether two texts are the same.
+pub fn same(a: &[u8], b: &[u8]) -> bool
+    ensures { λ r. ⌜ r ≡ sameText (now (a .entry)) (now (b .entry)) ⌝ }
+{
+    if a.len() != b.len() {
+        return false;
+    }
+    let mut i = 0;
+    while i < a.len() {
+        if a[i] != b[i] {
+            return false;
+        }
+        i += 1;
+    }
+    true
+}
+
+pub fn command_of(word: &[u8]) -> Command
+    ensures { λ r. ⌜ r ≡ commandOf (now (word .entry)) ⌝ }
+{
+    if same(word, b"verdict") {
+        return Command::Verdict;
+    }
+    if same(word, b"serial") {
+        return Command::Serial;
+    }
+    if same(word, b"explain") {
+        return Command::Explain;
+    }
+    if same(word, b"equal") {
+        return Command::Equal;
+    }
+    Command::Unknown
+}
+
+// A command on one recording, with n words in all.
+fn judge(c: Command, n: usize, option: &[u8]) -> Request
+    ensures { λ r. ⌜ r ≡ judging c n (now (option .entry)) ⌝ }
+{
+    if n == 3 {
+        return Request::Judge(c, false);
+    }
+    if n == 5 {
+        if same(option, b"--guards") {
+            return Request::Judge(c, true);
+        }
+    }
+    Request::Misused(c)
+}
+
+// What n words ask for: the command and the word in the place of --guards are given.
+pub fn request_of(n: usize, word: &[u8], option: &[u8]) -> Request
+    ensures { λ r. ⌜ r ≡ requestOf n (now (word .entry)) (now (option .entry)) ⌝ }
+{
+    if n < 2 {
+        return Request::Help;
+    }
+    let c = command_of(word);
+    match c {
+        Command::Verdict => judge(Command::Verdict, n, option),
+        Command::Serial => judge(Command::Serial, n, option),
+        Command::Explain => judge(Command::Explain, n, option),
+        Command::Equal => {
+            if n == 4 {
+                return Request::Compare;
+            }
+            Request::Misused(Command::Equal)
+        }
+        Command::Unknown => Request::Unknown,
+    }
+}
