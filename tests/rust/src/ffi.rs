@@ -1,5 +1,19 @@
-//! The static archive under test, with a safe wrapper for each call.
+//! The static archives under test, with a safe wrapper for each call.
 #![allow(dead_code)]
+
+use trace_tests::case::Implementation;
+
+pub const LIBRARY: Implementation = Implementation {
+    name: "library",
+    check,
+    read,
+    guards,
+    declared,
+    inferred,
+    equal,
+    serial_declared,
+    serial_inferred,
+};
 
 #[link(name = "trace", kind = "static")]
 extern "C" {

@@ -2,8 +2,10 @@
 
 use std::collections::{BTreeMap, BTreeSet, VecDeque};
 
+pub mod case;
 pub mod plain;
 pub mod random;
+pub mod random_case;
 
 pub const MOST_FRAMES: usize = 4096;
 pub const LINE_BYTES: usize = 33;

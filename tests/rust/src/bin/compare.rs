@@ -3,14 +3,16 @@
 //! Arguments: an optional seed.
 
 use std::process::exit;
-use trace_tests::random::{self, text_of_words, Plan, Random};
-use trace_tests::{
-    brute_equal, check, declared, equal, guards, inferred, plain, read, serial_declared,
-    serial_inferred, LINE_BYTES, VARIABLES,
+use trace_tests::case::{
+    frames, text, Call, Case, Implementation, Outcome, Tally, CALLS, MARGIN, REFERENCE,
 };
+use trace_tests::random::{self, text_of_words, Random};
+use trace_tests::random_case::{random_case, random_recording, random_right};
+use trace_tests::{brute_equal, equal, plain, LINE_BYTES, VARIABLES};
 
 #[path = "../ffi.rs"]
 mod ffi;
+use ffi::LIBRARY;
 
 const DEFAULT_SEED: u64 = 1;
 const CHECK_CASES: usize = 200_000;
@@ -21,47 +23,9 @@ const BRUTE_PAIRS: usize = 6_000;
 const BRUTE_FRAMES: usize = 8;
 /// One case of so many is about the limit of 4,096 frames.
 const LONG_EVERY: usize = 400;
-/// Elements on both sides of each buffer, which no call may touch.
-const MARGIN: usize = 16;
-
-struct Calls {
-    name: &'static str,
-    check: fn(&[u8], &mut [u8]) -> u8,
-    read: fn(&[u8], &mut [u32]) -> u64,
-    guards: fn(&[u8]) -> u64,
-    declared: fn(&[u8], &[u32], &mut [u8]) -> u8,
-    inferred: fn(&[u32], &mut [u64], &mut [u8]) -> u8,
-    equal: fn(&[u32], &[u32]) -> u64,
-    serial_declared: fn(&[u8], &[u32], &mut [u32]) -> u64,
-    serial_inferred: fn(&[u32], &mut [u32]) -> u64,
-}
-
-const REFERENCE: Calls = Calls {
-    name: "reference",
-    check,
-    read,
-    guards,
-    declared,
-    inferred,
-    equal,
-    serial_declared,
-    serial_inferred,
-};
-
-const LIBRARY: Calls = Calls {
-    name: "library",
-    check: ffi::check,
-    read: ffi::read,
-    guards: ffi::guards,
-    declared: ffi::declared,
-    inferred: ffi::inferred,
-    equal: ffi::equal,
-    serial_declared: ffi::serial_declared,
-    serial_inferred: ffi::serial_inferred,
-};
 
 /// The other calls are those of the reference.
-const PLAIN: Calls = Calls {
+const PLAIN: Implementation = Implementation {
     name: "plain Rust",
     check: plain::check,
     equal: plain::equal,
@@ -69,219 +33,28 @@ const PLAIN: Calls = Calls {
     serial_inferred: plain::serial_inferred,
     ..REFERENCE
 };
-const PLAIN_FAMILIES: [Family; 4] = [
-    Family::Check,
-    Family::Equal,
-    Family::SerialDeclared,
-    Family::SerialInferred,
+
+const PLAIN_CALLS: [Call; 4] = [
+    Call::Check,
+    Call::Equal,
+    Call::SerialDeclared,
+    Call::SerialInferred,
 ];
 
-// Cases and outcomes.
-
-#[derive(Clone, Copy, PartialEq)]
-enum Family {
-    Check,
-    Read,
-    Guards,
-    Declared,
-    Inferred,
-    Equal,
-    SerialDeclared,
-    SerialInferred,
-}
-
-const SERIAL: [Family; 2] = [Family::SerialDeclared, Family::SerialInferred];
-
-/// The input and the lengths of the lent buffers; a family ignores what it does not take.
-#[derive(Clone)]
-struct Case {
-    family: Family,
-    /// Recording text, or guard list.
-    text: Vec<u8>,
-    frames: Vec<u32>,
-    /// The right recording.
-    right: Vec<u32>,
-    line_len: usize,
-    /// Also the length of the output of a serial order.
-    words_len: usize,
-    sets_len: usize,
-    /// Decides the contents of the lent buffers before the call.
-    fill: u64,
-}
-
-#[derive(PartialEq)]
-struct Outcome {
-    reply: u64,
-    line: Vec<u8>,
-    words: Vec<u32>,
-    sets: Vec<u64>,
-    input_kept: bool,
-}
-
-/// A buffer with margins and random contents.
-fn filled<T>(random: &mut Random, len: usize, of: fn(u64) -> T) -> Vec<T> {
-    (0..len + 2 * MARGIN).map(|_| of(random.draw())).collect()
-}
-
-/// The part of a buffer that is lent.
-fn slot<T>(buffer: &mut [T]) -> &mut [T] {
-    let end = buffer.len() - MARGIN;
-    &mut buffer[MARGIN..end]
-}
-
-impl Case {
-    fn new(family: Family) -> Case {
-        Case {
-            family,
-            text: Vec::new(),
-            frames: Vec::new(),
-            right: Vec::new(),
-            line_len: LINE_BYTES,
-            words_len: 0,
-            sets_len: VARIABLES,
-            fill: 0,
-        }
-    }
-
-    fn run(&self, calls: &Calls) -> Outcome {
-        let random = &mut Random::new(self.fill);
-        // The input starts at any alignment that its type allows.
-        let skip = random.below(MARGIN);
-        let text = [vec![b'0'; skip], self.text.clone()].concat();
-        let frames = [vec![0; skip], self.frames.clone()].concat();
-        let right = [vec![0; skip], self.right.clone()].concat();
-        let (text_in, frames_in, right_in) = (&text[skip..], &frames[skip..], &right[skip..]);
-        let uses = |families: &[Family], len| {
-            if families.contains(&self.family) {
-                len
-            } else {
-                0
-            }
-        };
-        let line_users = [Family::Check, Family::Declared, Family::Inferred];
-        let mut line = filled(random, uses(&line_users, self.line_len), |x| x as u8);
-        let words_users = [Family::Read, Family::SerialDeclared, Family::SerialInferred];
-        let mut words = filled(random, uses(&words_users, self.words_len), |x| x as u32);
-        let mut sets = filled(random, uses(&[Family::Inferred], self.sets_len), |x| x);
-        let reply = match self.family {
-            Family::Check => (calls.check)(text_in, slot(&mut line)).into(),
-            Family::Read => (calls.read)(text_in, slot(&mut words)),
-            Family::Guards => (calls.guards)(text_in),
-            Family::Declared => (calls.declared)(text_in, frames_in, slot(&mut line)).into(),
-            Family::Inferred => {
-                (calls.inferred)(frames_in, slot(&mut sets), slot(&mut line)).into()
-            }
-            Family::Equal => (calls.equal)(frames_in, right_in),
-            Family::SerialDeclared => (calls.serial_declared)(text_in, frames_in, slot(&mut words)),
-            Family::SerialInferred => (calls.serial_inferred)(frames_in, slot(&mut words)),
-        };
-        let (text, frames, right) = std::hint::black_box((text, frames, right));
-        Outcome {
-            reply,
-            line,
-            words,
-            sets,
-            input_kept: text[skip..] == self.text
-                && frames[skip..] == self.frames
-                && right[skip..] == self.right,
-        }
-    }
-
-    fn print(&self) {
-        println!("call {}", NAMES[self.family as usize]);
-        println!("text \"{}\"", self.text.escape_ascii());
-        println!("frames {:08X?}", self.frames);
-        println!("right frames {:08X?}", self.right);
-        let (line, words, sets) = (self.line_len, self.words_len, self.sets_len);
-        println!(
-            "lengths: line {line}, words {words}, sets {sets}; fill {}",
-            self.fill
-        );
-    }
-
-    /// The outcome of the reference, which the library must share.
-    fn compare(&self) -> Outcome {
-        let expected = self.run(&REFERENCE);
-        for calls in [&LIBRARY, &PLAIN] {
-            let outcome = self.run(calls);
-            if outcome != expected {
-                println!("MISMATCH between reference and {}", calls.name);
-                self.print();
-                expected.print(REFERENCE.name);
-                outcome.print(calls.name);
-                exit(1);
-            }
-            if !PLAIN_FAMILIES.contains(&self.family) {
-                break;
-            }
-        }
-        if SERIAL.contains(&self.family) && expected.reply >> 32 == 0 {
-            self.check_serial(&expected);
-        }
-        expected
-    }
-}
-
-/// No other thread's frame stands inside a block.
-fn is_serial(words: &[u32]) -> bool {
-    let (mut inside, mut depth) = (0, 0);
-    words.iter().all(|word| {
-        let thread = word >> 16 & 255;
-        let alone = depth == 0 || thread == inside;
-        inside = thread;
-        match word >> 24 {
-            5 => depth += 1,
-            6 => depth -= 1,
-            _ => {}
-        }
-        alone
+/// The outcome of the reference, which the library and the plain checker must share.
+fn compare(case: &Case) -> Outcome {
+    let others: &[&Implementation] = if PLAIN_CALLS.contains(&case.call) {
+        &[&LIBRARY, &PLAIN]
+    } else {
+        &[&LIBRARY]
+    };
+    case.compare(others).unwrap_or_else(|difference| {
+        println!("{difference}");
+        exit(1)
     })
 }
 
-impl Case {
-    /// A written serial order is serial and equal to the recording.
-    fn check_serial(&self, outcome: &Outcome) {
-        let written = outcome.written();
-        if !is_serial(written) || equal(&self.frames, written) != 1 {
-            println!("NOT A SERIAL ORDER of the recording");
-            self.print();
-            outcome.print("all");
-            exit(1);
-        }
-    }
-}
-
-impl Outcome {
-    /// The serial order; there was no refusal.
-    fn written(&self) -> &[u32] {
-        &self.words[MARGIN..][..self.reply as usize]
-    }
-
-    fn print(&self, name: &str) {
-        println!(
-            "{name}: reply {:X}, input kept: {}",
-            self.reply, self.input_kept
-        );
-        println!("  line with margins \"{}\"", self.line.escape_ascii());
-        println!("  words with margins {:08X?}", self.words);
-        println!("  sets with margins {:X?}", self.sets);
-    }
-}
-
 // Literal cases.
-
-/// Text of words parted by spaces.
-fn text(words: &str) -> Vec<u8> {
-    words
-        .split_whitespace()
-        .flat_map(|word| [word.as_bytes(), b"\n"].concat())
-        .collect()
-}
-
-fn frames(words: &str) -> Vec<u32> {
-    let read = |word| u32::from_str_radix(word, 16).expect("eight digits");
-    words.split_whitespace().map(read).collect()
-}
 
 #[derive(Default)]
 struct Literals {
@@ -293,7 +66,7 @@ impl Literals {
     fn expect(&mut self, case: Case, reply: u64, sound: &dyn Fn(&Outcome, &Outcome) -> bool) {
         self.checked += 1;
         // No call at all: the buffers as they were lent.
-        let untouched = case.run(&Calls {
+        let untouched = case.run(&Implementation {
             check: |_, _| 0,
             read: |_, _| 0,
             guards: |_| 0,
@@ -304,16 +77,16 @@ impl Literals {
             serial_inferred: |_, _| 0,
             name: "untouched",
         });
-        for calls in [&REFERENCE, &PLAIN, &LIBRARY] {
-            let outcome = case.run(calls);
+        for implementation in [&REFERENCE, &PLAIN, &LIBRARY] {
+            let outcome = case.run(implementation);
             if outcome.reply != reply || !outcome.input_kept || !sound(&outcome, &untouched) {
                 println!(
-                    "LITERAL CASE {}: {} differs, expected reply {reply:X}",
-                    self.checked, calls.name
+                    "LITERAL CASE {}: {} differs, expected reply {reply:X}\n{case}\n{}\n{}",
+                    self.checked,
+                    implementation.name,
+                    case.run(&REFERENCE).describe(REFERENCE.name),
+                    outcome.describe(implementation.name)
                 );
-                case.print();
-                case.run(&REFERENCE).print(REFERENCE.name);
-                outcome.print(calls.name);
                 exit(1);
             }
         }
@@ -335,7 +108,7 @@ impl Literals {
 
     fn check(&mut self, text: &[u8], line: &str) {
         for line_len in [33, 34, 64] {
-            let mut case = Case::new(Family::Check);
+            let mut case = Case::new(Call::Check);
             (case.text, case.line_len) = (text.to_vec(), line_len);
             self.expect_line(case, line, None);
         }
@@ -346,7 +119,7 @@ impl Literals {
     }
 
     fn declared_raw(&mut self, list: &[u8], frames: &[u32], line: &str) {
-        let mut case = Case::new(Family::Declared);
+        let mut case = Case::new(Call::Declared);
         (case.text, case.frames) = (list.to_vec(), frames.to_vec());
         self.expect_line(case, line, None);
     }
@@ -364,7 +137,7 @@ impl Literals {
             table[variable] = set;
         }
         for sets_len in [1024, 1030] {
-            let mut case = Case::new(Family::Inferred);
+            let mut case = Case::new(Call::Inferred);
             (case.frames, case.sets_len) = (frames.to_vec(), sets_len);
             let refused = line.as_bytes()[0] == b'8' || line.as_bytes()[0] == b'9';
             self.expect_line(case, line, (!refused).then_some(&table));
@@ -379,7 +152,7 @@ impl Literals {
     }
 
     fn read(&mut self, text: &[u8], words_len: usize, reply: u64, words: &[u32]) {
-        let mut case = Case::new(Family::Read);
+        let mut case = Case::new(Call::Read);
         (case.text, case.words_len) = (text.to_vec(), words_len);
         self.expect(case, reply, &|outcome, before| {
             let mut words_after = before.words.clone();
@@ -389,7 +162,7 @@ impl Literals {
     }
 
     fn guards(&mut self, list: &[u8], reply: u64) {
-        let mut case = Case::new(Family::Guards);
+        let mut case = Case::new(Call::Guards);
         case.text = list.to_vec();
         self.expect(case, reply, &|_, _| true);
     }
@@ -401,7 +174,7 @@ impl Literals {
     }
 
     fn equal_raw(&mut self, left: &[u32], right: &[u32], reply: u64) {
-        let mut case = Case::new(Family::Equal);
+        let mut case = Case::new(Call::Equal);
         (case.frames, case.right) = (left.to_vec(), right.to_vec());
         self.expect(case, reply, &|_, _| true);
     }
@@ -433,8 +206,8 @@ impl Literals {
         order: &[u32],
     ) {
         let mut case = Case::new(match list {
-            Some(_) => Family::SerialDeclared,
-            None => Family::SerialInferred,
+            Some(_) => Call::SerialDeclared,
+            None => Call::SerialInferred,
         });
         case.text = list.unwrap_or_default().to_vec();
         (case.frames, case.words_len) = (frames.to_vec(), out_len);
@@ -790,17 +563,17 @@ fn order_of_refusals(to: &mut Literals) {
         ),
         ("02000005", 0, "88000000FFFFFFFF0000000000000000"),
     ] {
-        let mut case = Case::new(Family::Inferred);
+        let mut case = Case::new(Call::Inferred);
         (case.frames, case.sets_len) = (frames(words), sets_len);
         to.expect_line(case, line, None);
     }
-    let mut case = Case::new(Family::Inferred);
+    let mut case = Case::new(Call::Inferred);
     (case.frames, case.sets_len) = (more.to_vec(), 0);
     to.expect_line(case, "82100000FFFFFFFF0000000000000000", None);
     // 17 comes first of all.
     for input in ["", "05000000\n", "FFFFFFFF\n", "x"] {
-        for family in [Family::Check, Family::Declared, Family::Inferred] {
-            let mut case = Case::new(family);
+        for call in [Call::Check, Call::Declared, Call::Inferred] {
+            let mut case = Case::new(call);
             case.text = input.into();
             case.sets_len = 1023;
             case.frames = more.to_vec();
@@ -893,178 +666,13 @@ fn lines_and_lists(to: &mut Literals) {
 
 // Random cases.
 
-fn small_plan(random: &mut Random, unprotected: usize) -> Plan {
-    Plan {
-        threads: random.between(1, 4),
-        locks: random.between(1, 5),
-        variables: random.between(1, 5),
-        frames: random.pick(&[10, 60, 60, 200]) * random.below(1001) / 1000,
-        nesting: random.pick(&[1, 2, 2, 3, 30]),
-        unprotected,
-        careless: random.pick(&[0, 0, 10, 50, 300]),
-        wild: random.pick(&[0, 0, 20, 100]),
-    }
-}
-
-fn long_plan(random: &mut Random, unprotected: usize) -> Plan {
-    Plan {
-        threads: random.between(1, 32),
-        locks: random.between(1, 64),
-        variables: random.between(1, 1024),
-        frames: random.between(4090, 4100),
-        nesting: random.between(1, 3),
-        unprotected,
-        careless: random.pick(&[0, 0, 0, 1]),
-        wild: random.pick(&[0, 0, 0, 1]),
-    }
-}
-
-fn random_recording(random: &mut Random, family: Family, long: bool) -> random::Recording {
-    // Unprotected variables belong to declared guards; elsewhere they are soon a violation.
-    let unprotected = match family {
-        Family::Guards | Family::Declared | Family::SerialDeclared => {
-            random.pick(&[0, 100, 300, 1000])
-        }
-        _ => random.pick(&[0, 0, 0, 0, 0, 100]),
-    };
-    let plan = if long {
-        long_plan(random, unprotected)
-    } else {
-        small_plan(random, unprotected)
-    };
-    let mut made = random::recording(random, &plan);
-    if !long && random.chance(100) {
-        made.words = (0..random.below(12))
-            .map(|_| random::edge_word(random))
-            .collect();
-    } else if !long && random.chance(20) {
-        made.words = (0..random.below(12))
-            .map(|_| random.draw() as u32)
-            .collect();
-    } else if long && random.chance(200) {
-        *made.words.last_mut().expect("long") = random::edge_word(random);
-    }
-    made
-}
-
-fn random_text(random: &mut Random, family: Family, long: bool) -> Vec<u8> {
-    let mut text = text_of_words(&random_recording(random, family, long).words);
-    if random.chance(300) {
-        random::damage_text(random, &mut text);
-    } else if random.chance(20) {
-        text = (0..random.below(40))
-            .map(|_| random.pick(b"0123ABCF\n\n\n\rf"))
-            .collect();
-    } else if long && random.chance(300) {
-        text.truncate(9 * 4096);
-        let extra: [&[u8]; 5] = [b"", b"x", b"\n", b"05000000\n", b"05000000"];
-        text.extend(random.pick(&extra));
-    }
-    text
-}
-
-fn random_list(random: &mut Random, guards: &[(u32, Option<u32>)]) -> Vec<u8> {
-    let mut words = random::guard_words(random, guards);
-    if random.chance(150) {
-        random::damage_guards(random, &mut words);
-    }
-    let mut list = text_of_words(&words);
-    if random.chance(80) {
-        random::damage_text(random, &mut list);
-    }
-    list
-}
-
-/// A guard list of just these guards in random order.
-fn exact_list(random: &mut Random, guards: &[(u32, Option<u32>)]) -> Vec<u8> {
-    let named = |&(variable, guard): &(u32, Option<u32>)| Some(variable << 16 | guard?);
-    let mut words: Vec<u32> = guards.iter().filter_map(named).collect();
-    random.shuffle(&mut words);
-    text_of_words(&words)
-}
-
-/// A recording for equality and serial orders: most are closed and sound.
-fn random_units(random: &mut Random, family: Family, long: bool) -> random::Recording {
-    if !long && random.chance(500) {
-        let unprotected = family == Family::SerialDeclared && random.chance(700);
-        let mut units = random.pick(&[3, 10, 30]);
-        units = random.between(0, units);
-        let mut made = random::interleaved(random, units, unprotected);
-        if random.chance(60) {
-            random::forbidden_exchange(random, &mut made.words);
-        } else if random.chance(60) {
-            made.words.truncate(random.between(0, made.words.len()));
-        } else if random.chance(60) {
-            random::damage_frames(random, &mut made.words);
-        }
-        return made;
-    }
-    let mut made = random_recording(random, family, long);
-    if random.chance(if long { 800 } else { 600 }) {
-        let most = if long { 4096 } else { made.words.len() };
-        random::close_blocks(random, &mut made.words, most);
-    }
-    made
-}
-
-/// A recording that is equal to this one, or nearly.
-fn random_right(random: &mut Random, left: &[u32]) -> Vec<u32> {
-    let mut right = left.to_vec();
-    let sweeps = random.pick(&[0, 1, 3, 20]);
-    if random.chance(200) {
-        serial_inferred(left, &mut right);
-    }
-    random::exchange(random, &mut right, sweeps);
-    let place = random.below(right.len().max(1));
-    match random.below(12) {
-        0..5 => {}
-        5..8 => {
-            random::forbidden_exchange(random, &mut right);
-            random::exchange(random, &mut right, sweeps);
-        }
-        8..10 => right = random::reschedule(random, left),
-        // Another operation or object, or another length: sound in some cases.
-        10 if !right.is_empty() => right[place] ^= random.pick(&[1, 2, 7 << 24, 1 << 16]),
-        _ => match random.below(4) {
-            0 => right.insert(place, 0x0300_0000 | random.below(4) as u32),
-            1 => right.truncate(place),
-            2 if !right.is_empty() => drop(right.remove(place)),
-            _ => right.extend([0x0505_0000, 0x0605_0000]),
-        },
-    }
-    right
-}
-
-fn random_pair(random: &mut Random, long: bool) -> (Vec<u32>, Vec<u32>) {
-    let mut left = random_units(random, Family::Equal, long);
-    if !long && random.chance(300) {
-        // Unguarded accesses are as good as others here.
-        left.words = random::interleaved(random, 6, true).words;
-    }
-    let mut left = left.words;
-    let mut right = match random.below(20) {
-        0 => random_units(random, Family::Equal, long).words,
-        _ => random_right(random, &left),
-    };
-    match random.below(20) {
-        0 => random::damage_frames(random, &mut left),
-        1..3 => random::damage_frames(random, &mut right),
-        3 => {
-            random::damage_frames(random, &mut left);
-            random::damage_frames(random, &mut right);
-        }
-        _ => {}
-    }
-    (left, right)
-}
-
 /// The search over exchanges and the projections agree on short sound recordings.
 fn compare_search(random: &mut Random) -> bool {
     // Not equal and equal: all, and those with the same frames in another order.
     let (mut counts, mut rearranged) = ([0; 2], [0; 2]);
     while counts[0] + counts[1] < BRUTE_PAIRS {
         let mut left = match random.below(3) {
-            0 => random_recording(random, Family::Equal, false).words,
+            0 => random_recording(random, Call::Equal, false).words,
             _ => random::interleaved(random, 8, true).words,
         };
         left.truncate(random.between(2, BRUTE_FRAMES));
@@ -1092,195 +700,43 @@ fn compare_search(random: &mut Random) -> bool {
     !rearranged.contains(&0)
 }
 
-fn random_case(random: &mut Random, family: Family, long: bool) -> Case {
-    let mut case = Case::new(family);
-    case.fill = random.draw();
-    case.line_len = match random.chance(60) {
-        true => random.between(0, 32),
-        false => random.between(33, 64),
+/// Prints the counts; false if something that can occur is absent.
+fn report(tally: &Tally, call: Call) -> bool {
+    let (kinds, refusals) = (call.possible_kinds(), call.possible_refusals());
+    let shown = |label: &str, of: &[usize], counts: &[usize]| {
+        let each: Vec<String> = of.iter().map(|&n| format!("{n}: {}", counts[n])).collect();
+        println!("  {label} {}", each.join(", "));
+        of.iter().all(|&n| counts[n] > 0)
     };
-    case.sets_len = match random.below(10) {
-        0 => random.pick(&[0, 1, 1022, 1023]),
-        1 => random.between(1025, 1100),
-        _ => 1024,
-    };
-    match family {
-        Family::Check => case.text = random_text(random, family, long),
-        Family::Read => {
-            case.text = random_text(random, family, long);
-            let lines = case.text.len() / 9;
-            case.words_len = match random.below(4) {
-                0 => random.between(0, lines),
-                1 => lines,
-                2 => lines.saturating_sub(1),
-                _ => lines + random.below(20),
-            };
-        }
-        Family::Guards => {
-            let made = random_recording(random, family, long);
-            case.text = random_list(random, &made.guards);
-        }
-        Family::Declared => {
-            let made = random_recording(random, family, long);
-            case.text = random_list(random, &made.guards);
-            case.frames = made.words;
-        }
-        Family::Inferred => case.frames = random_recording(random, family, long).words,
-        Family::Equal => (case.frames, case.right) = random_pair(random, long),
-        Family::SerialDeclared | Family::SerialInferred => {
-            let made = random_units(random, family, long);
-            if family == Family::SerialDeclared {
-                case.text = match random.below(10) {
-                    0 => Vec::new(),
-                    1..4 => random_list(random, &made.guards),
-                    _ => exact_list(random, &made.guards),
-                };
-            }
-            case.frames = made.words;
-            let count = case.frames.len();
-            case.words_len = match random.below(10) {
-                0 => random.between(0, count),
-                1 => count.saturating_sub(1),
-                2..6 => count,
-                _ => count + random.below(20),
-            };
+    println!("{}: {} cases", call.name(), tally.cases);
+    let mut complete = true;
+    let [equal_moved, unequal_same_length, serial_moved] = tally.moved;
+    let long = tally.long_moved;
+    if call == Call::Equal {
+        let [unequal, equal, ..] = tally.kinds;
+        println!("  equal: {equal}, {equal_moved} of these in another order, {long} long");
+        println!("  not equal: {unequal}, {unequal_same_length} of these of one length");
+        complete &= unequal_same_length > 0 && unequal > unequal_same_length && long > 0;
+        complete &= shown("refusals, left ", refusals, &tally.refusals);
+        complete &= shown("refusals, right", refusals, &tally.right_refusals);
+    } else if call.is_serial() {
+        let written = tally.kinds[0];
+        println!("  written: {written}, {serial_moved} of these not as recorded, {long} long");
+        complete &= written > serial_moved && long > 0;
+        complete &= shown("refusals", refusals, &tally.refusals);
+    } else {
+        complete &= shown("kinds   ", kinds, &tally.kinds);
+        complete &= shown("refusals", refusals, &tally.refusals);
+        if kinds.contains(&1) || kinds.contains(&4) {
+            let [absent, alone, both] = tally.shapes;
+            println!("  kind 1 or 4 outside: {absent}, before commit: {alone}, after: {both}");
+            complete &= !tally.shapes.contains(&0);
         }
     }
-    case
-}
-
-// Counts.
-
-const NAMES: [&str; 8] = [
-    "check",
-    "read",
-    "guards",
-    "declared",
-    "inferred",
-    "equal",
-    "serial declared",
-    "serial inferred",
-];
-const FAMILIES: [Family; 8] = [
-    Family::Check,
-    Family::Read,
-    Family::Guards,
-    Family::Declared,
-    Family::Inferred,
-    Family::Equal,
-    Family::SerialDeclared,
-    Family::SerialInferred,
-];
-
-/// Kinds and refusals that can occur, per call. Kind 0 of read and guards: accepted; of equal:
-/// not equal, and 1: equal; of the serial orders: written.
-const POSSIBLE: [(&[usize], &[usize]); 8] = [
-    (&[0, 3, 4], &[1, 2, 4, 5, 6, 7, 8, 9, 10, 17]),
-    (&[0], &[1, 2, 3]),
-    (&[0], &[1, 11, 12]),
-    (&[0, 1, 2, 3], &[1, 2, 4, 5, 6, 7, 8, 9, 10, 11, 12, 17]),
-    (&[0, 3, 4], &[2, 4, 5, 6, 7, 8, 9, 10, 16, 17]),
-    (&[0, 1], &[2, 4, 5, 6, 7, 8, 9, 10]),
-    (&[0], &[1, 2, 4, 5, 6, 7, 8, 9, 10, 11, 12, 13, 14, 15]),
-    (&[0], &[2, 4, 5, 6, 7, 8, 9, 10, 13, 14, 15]),
-];
-
-#[derive(Default)]
-struct Tally {
-    cases: usize,
-    kinds: [usize; 5],
-    refusals: [usize; 18],
-    /// Refusals of the right recording.
-    right_refusals: [usize; 18],
-    /// Violations of kind 1 or 4 with begin absent, begin alone, begin and commit.
-    shapes: [usize; 3],
-    /// Equal recordings in another order, unequal ones of one length, serial orders that are not
-    /// the recording.
-    moved: [usize; 3],
-    /// Recordings near the limit of the length that are equal in another order, or have a serial
-    /// order that is not the recording.
-    long_moved: usize,
-}
-
-/// So many frames are near the limit of the length.
-const LONG: usize = 4000;
-
-impl Tally {
-    fn count(&mut self, case: &Case, outcome: &Outcome) {
-        self.cases += 1;
-        let (family, reply) = (case.family, outcome.reply);
-        let (high, low) = ((reply >> 32) as usize, reply as usize & 0xFFFF_FFFF);
-        let (kind, refusal) = match family {
-            Family::Read | Family::Guards | Family::SerialDeclared | Family::SerialInferred => {
-                (0, high)
-            }
-            Family::Equal => (low, high),
-            _ if reply >= 0x80 => (0, reply as usize - 0x80),
-            _ => (reply as usize, 0),
-        };
-        match refusal {
-            0 => self.kinds[kind] += 1,
-            1..256 => self.refusals[refusal] += 1,
-            _ => self.right_refusals[refusal - 256] += 1,
-        }
-        if refusal != 0 {
-            return;
-        }
-        if family == Family::Equal {
-            let same_length = case.frames.len() == case.right.len();
-            let moved = kind == 1 && case.frames != case.right;
-            self.moved[0] += usize::from(moved);
-            self.moved[1] += usize::from(kind == 0 && same_length);
-            self.long_moved += usize::from(moved && case.frames.len() >= LONG);
-        } else if SERIAL.contains(&family) {
-            let moved = outcome.written() != case.frames;
-            self.moved[2] += usize::from(moved);
-            self.long_moved += usize::from(moved && case.frames.len() >= LONG);
-        } else if kind == 1 || kind == 4 {
-            let places = &outcome.line[MARGIN + 8..MARGIN + 16];
-            let present = |place: &[u8]| usize::from(place != b"FFFF");
-            self.shapes[present(&places[..4]) + present(&places[4..])] += 1;
-        }
+    if !complete {
+        println!("  FAILED: something that can occur did not");
     }
-
-    /// Prints the counts; false if something that can occur is absent.
-    fn report(&self, family: Family) -> bool {
-        let (kinds, refusals) = POSSIBLE[family as usize];
-        let shown = |label: &str, of: &[usize], counts: &[usize]| {
-            let each: Vec<String> = of.iter().map(|&n| format!("{n}: {}", counts[n])).collect();
-            println!("  {label} {}", each.join(", "));
-            of.iter().all(|&n| counts[n] > 0)
-        };
-        println!("{}: {} cases", NAMES[family as usize], self.cases);
-        let mut complete = true;
-        let [equal_moved, unequal_same_length, serial_moved] = self.moved;
-        let long = self.long_moved;
-        if family == Family::Equal {
-            let [unequal, equal, ..] = self.kinds;
-            println!("  equal: {equal}, {equal_moved} of these in another order, {long} long");
-            println!("  not equal: {unequal}, {unequal_same_length} of these of one length");
-            complete &= unequal_same_length > 0 && unequal > unequal_same_length && long > 0;
-            complete &= shown("refusals, left ", refusals, &self.refusals);
-            complete &= shown("refusals, right", refusals, &self.right_refusals);
-        } else if SERIAL.contains(&family) {
-            let written = self.kinds[0];
-            println!("  written: {written}, {serial_moved} of these not as recorded, {long} long");
-            complete &= written > serial_moved && long > 0;
-            complete &= shown("refusals", refusals, &self.refusals);
-        } else {
-            complete &= shown("kinds   ", kinds, &self.kinds);
-            complete &= shown("refusals", refusals, &self.refusals);
-            if kinds.contains(&1) || kinds.contains(&4) {
-                let [absent, alone, both] = self.shapes;
-                println!("  kind 1 or 4 outside: {absent}, before commit: {alone}, after: {both}");
-                complete &= !self.shapes.contains(&0);
-            }
-        }
-        if !complete {
-            println!("  FAILED: something that can occur did not");
-        }
-        complete
-    }
+    complete
 }
 
 fn main() {
@@ -1301,18 +757,18 @@ fn main() {
     println!("seed {seed}");
     let random = &mut Random::new(seed);
     let mut complete = true;
-    for family in FAMILIES {
-        let cases = match family {
-            Family::Check => CHECK_CASES,
-            Family::Equal => EQUAL_CASES,
+    for call in CALLS {
+        let cases = match call {
+            Call::Check => CHECK_CASES,
+            Call::Equal => EQUAL_CASES,
             _ => OTHER_CASES,
         };
         let mut tally = Tally::default();
         for number in 0..cases {
-            let case = random_case(random, family, number % LONG_EVERY == 0);
-            tally.count(&case, &case.compare());
+            let case = random_case(random, call, number % LONG_EVERY == 0);
+            tally.count(&case, &compare(&case));
         }
-        complete &= tally.report(family);
+        complete &= report(&tally, call);
     }
     complete &= compare_search(random);
     if !complete {
