@@ -383,4 +383,17 @@ impl Tally {
             self.shapes[present(&places[..4]) + present(&places[4..])] += 1;
         }
     }
+    /// Adds the counts of another tally.
+    pub fn add(&mut self, other: &Tally) {
+        let add = |to: &mut [usize], from: &[usize]| {
+            to.iter_mut().zip(from).for_each(|(to, from)| *to += from);
+        };
+        add(&mut self.kinds, &other.kinds);
+        add(&mut self.refusals, &other.refusals);
+        add(&mut self.right_refusals, &other.right_refusals);
+        add(&mut self.shapes, &other.shapes);
+        add(&mut self.moved, &other.moved);
+        self.cases += other.cases;
+        self.long_moved += other.long_moved;
+    }
 }

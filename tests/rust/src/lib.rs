@@ -2,10 +2,12 @@
 
 use std::collections::{BTreeMap, BTreeSet, VecDeque};
 
+pub mod adversarial;
 pub mod case;
 pub mod plain;
 pub mod random;
 pub mod random_case;
+pub mod table;
 
 pub const MOST_FRAMES: usize = 4096;
 pub const LINE_BYTES: usize = 33;

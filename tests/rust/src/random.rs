@@ -44,7 +44,7 @@ impl Random {
     }
 
     /// `count` different numbers below `limit`.
-    fn names(&mut self, count: usize, limit: u32) -> Vec<u32> {
+    pub fn names(&mut self, count: usize, limit: u32) -> Vec<u32> {
         let mut all: Vec<u32> = (0..limit).collect();
         self.shuffle(&mut all);
         all.truncate(count);

@@ -1,0 +1,298 @@
+//! Recordings and guard lists at the limits: nesting, locks, threads, candidate sets.
+
+use crate::random::{Random, Recording};
+use crate::VARIABLES;
+
+pub const THREADS: u32 = 32;
+pub const LOCKS: u32 = 64;
+pub const MOST_DEPTH: usize = 15;
+
+pub const ACQUIRE: u32 = 1;
+pub const RELEASE: u32 = 2;
+pub const READ: u32 = 3;
+pub const WRITE: u32 = 4;
+pub const BEGIN: u32 = 5;
+pub const END: u32 = 6;
+
+pub fn word(operation: u32, thread: u32, object: u32) -> u32 {
+    operation << 24 | thread << 16 | object
+}
+
+/// A read or a write.
+fn access(random: &mut Random, thread: u32, variable: u32) -> u32 {
+    word(random.pick(&[READ, WRITE]), thread, variable)
+}
+
+/// Begin, end, begin and so on: closed if the count is even.
+pub fn pairs(count: usize) -> Vec<u32> {
+    let mut words = [word(BEGIN, 0, 0), word(END, 0, 0)].repeat(count / 2 + 1);
+    words.truncate(count);
+    words
+}
+
+// Nesting.
+
+/// The greatest nesting in all threads at once: each thread's next frame in turn.
+pub fn all_deep(random: &mut Random, operation: u32) -> Vec<u32> {
+    let turn: Vec<u32> = random.names(THREADS as usize, THREADS);
+    let turn: Vec<u32> = turn
+        .iter()
+        .map(|&thread| word(operation, thread, 0))
+        .collect();
+    turn.repeat(MOST_DEPTH)
+}
+
+/// Begins and ends of some threads that stay within the limits, but for a last frame beyond them
+/// in some recordings. Some have accesses.
+pub fn nesting_walk(random: &mut Random) -> Vec<u32> {
+    let count = random.pick(&[1, 2, 4, 32]);
+    let threads = random.names(count, THREADS);
+    let mut depths = vec![0; count];
+    let up = random.pick(&[300, 500, 700, 900]);
+    let beyond = random.pick(&[0, 0, 5, 50]);
+    let accesses = random.pick(&[0, 0, 200]);
+    let mut words = Vec::new();
+    for _ in 0..random.below(400) {
+        let number = random.below(count);
+        let (thread, depth) = (threads[number], &mut depths[number]);
+        let begins = random.chance(up);
+        if random.chance(accesses) {
+            words.push(access(random, thread, 5));
+        } else if *depth == if begins { MOST_DEPTH } else { 0 } {
+            if random.chance(beyond) {
+                words.push(word(if begins { BEGIN } else { END }, thread, 0));
+                return words;
+            }
+        } else if begins {
+            *depth += 1;
+            words.push(word(BEGIN, thread, 0));
+        } else {
+            *depth -= 1;
+            words.push(word(END, thread, 0));
+        }
+    }
+    words
+}
+
+// Locks.
+
+/// One thread takes all locks, in this order.
+fn acquires(thread: u32, locks: &[u32]) -> Vec<u32> {
+    let acquire = |&lock: &u32| word(ACQUIRE, thread, lock);
+    locks.iter().map(acquire).collect()
+}
+
+/// One thread takes all locks, in random order.
+pub fn all_locks(random: &mut Random, thread: u32) -> Vec<u32> {
+    acquires(thread, &random.names(LOCKS as usize, LOCKS))
+}
+
+struct LockWalk<'a> {
+    random: &'a mut Random,
+    /// The first one takes all locks at the beginning.
+    threads: Vec<u32>,
+    owners: Vec<Option<u32>>,
+    /// The guard of each variable.
+    guards: Vec<u32>,
+    depths: Vec<usize>,
+    /// Share of frames that need not follow the rules, of 1,000.
+    careless: usize,
+}
+
+impl LockWalk<'_> {
+    /// A lock with this owner, if there is one; any lock at times.
+    fn lock_of(&mut self, owner: Option<u32>) -> Option<u32> {
+        let careless = self.random.chance(self.careless);
+        let fits = |&lock: &u32| careless || self.owners[lock as usize] == owner;
+        let locks: Vec<u32> = (0..LOCKS).filter(fits).collect();
+        (!locks.is_empty()).then(|| self.random.pick(&locks))
+    }
+
+    fn step(&mut self) -> Option<u32> {
+        let number = self.random.pick(&[0, 0, 0, 1, 2]);
+        let thread = self.threads[number];
+        match self.random.below(20) {
+            0..7 => {
+                let lock = self.lock_of(Some(thread))?;
+                let variable = self.guards.iter().position(|&guard| guard == lock)?;
+                Some(access(self.random, thread, variable as u32))
+            }
+            7..13 => {
+                let lock = self.lock_of(Some(thread))?;
+                self.owners[lock as usize] = None;
+                Some(word(RELEASE, thread, lock))
+            }
+            13..18 => {
+                let lock = self.lock_of(None)?;
+                self.owners[lock as usize] = Some(thread);
+                Some(word(ACQUIRE, thread, lock))
+            }
+            18 if self.depths[number] < MOST_DEPTH => {
+                self.depths[number] += 1;
+                Some(word(BEGIN, thread, 0))
+            }
+            19 if self.depths[number] > 0 => {
+                self.depths[number] -= 1;
+                Some(word(END, thread, 0))
+            }
+            _ => None,
+        }
+    }
+}
+
+/// One thread takes all locks; then it and two others access variables, release and acquire.
+pub fn lock_walk(random: &mut Random) -> Recording {
+    let threads = random.names(3, THREADS);
+    let mut words = all_locks(random, threads[0]);
+    let mut walk = LockWalk {
+        owners: vec![Some(threads[0]); LOCKS as usize],
+        guards: random.names(40, LOCKS),
+        depths: vec![0; 3],
+        careless: random.pick(&[0, 0, 0, 2, 20, 200]),
+        threads,
+        random,
+    };
+    if walk.random.chance(200) {
+        words.insert(0, word(BEGIN, walk.threads[0], 0));
+        walk.depths[0] = 1;
+    }
+    for _ in 0..walk.random.below(300) {
+        words.extend(walk.step());
+    }
+    let guards = (0..).zip(walk.guards.iter().map(|&lock| Some(lock)));
+    Recording {
+        words,
+        guards: guards.collect(),
+    }
+}
+
+// Threads.
+
+/// The variables that one thread accesses under its lock, in a strict alternation.
+const OWN_VARIABLES: u32 = 16;
+const FIRST_UNPROTECTED: u32 = THREADS * OWN_VARIABLES;
+/// A block of fewer frames has no place for its commit.
+pub const LEAST_STEPS: usize = 8;
+
+/// A block of `steps` frames under two locks of the thread's own that commits at a given step: by
+/// a release, or by an access of a variable without a guard.
+fn block(random: &mut Random, thread: u32, steps: usize, commit: usize) -> Vec<u32> {
+    let mut own_access = |_| {
+        let variable = OWN_VARIABLES * thread + random.below(OWN_VARIABLES as usize) as u32;
+        access(random, thread, variable)
+    };
+    let mut frames: Vec<u32> = (0..steps).map(&mut own_access).collect();
+    frames[0] = word(BEGIN, thread, 0);
+    frames[1] = word(ACQUIRE, thread, thread);
+    frames[2] = word(ACQUIRE, thread, THREADS + thread);
+    frames[steps - 2] = word(RELEASE, thread, thread);
+    frames[steps - 1] = word(END, thread, 0);
+    if random.chance(500) {
+        frames[commit] = word(RELEASE, thread, THREADS + thread);
+    } else {
+        frames[commit] = access(random, thread, FIRST_UNPROTECTED + thread);
+        frames[steps - 3] = word(RELEASE, thread, THREADS + thread);
+    }
+    frames
+}
+
+/// All threads in strict alternation, each in blocks of its own; blocks that begin together commit
+/// in another order than they begin where there are steps enough.
+pub fn alternation(random: &mut Random, blocks: usize, steps: usize) -> Recording {
+    let threads = random.names(THREADS as usize, THREADS);
+    let last_commit = steps - 4;
+    let mut words = Vec::new();
+    for _ in 0..blocks {
+        let mut commits: Vec<usize> = (0..threads.len())
+            .map(|number| last_commit - number.min(last_commit - 3))
+            .collect();
+        if random.chance(500) {
+            random.shuffle(&mut commits);
+        }
+        let each = threads.iter().zip(commits);
+        let each: Vec<Vec<u32>> = each
+            .map(|(&thread, commit)| block(random, thread, steps, commit))
+            .collect();
+        words.extend((0..steps).flat_map(|step| each.iter().map(move |frames| frames[step])));
+    }
+    let guarded = (0..FIRST_UNPROTECTED).map(|variable| (variable, Some(variable / OWN_VARIABLES)));
+    let unprotected =
+        (FIRST_UNPROTECTED..FIRST_UNPROTECTED + THREADS).map(|variable| (variable, None));
+    Recording {
+        words,
+        guards: guarded.chain(unprotected).collect(),
+    }
+}
+
+// Guard lists and candidate sets.
+
+/// Guard lines of so many different variables.
+pub fn guard_lines(random: &mut Random, count: usize) -> Vec<u32> {
+    let variables = random.names(count, VARIABLES as u32);
+    let line = |variable: &u32| variable << 16 | random.below(LOCKS as usize) as u32;
+    variables.iter().map(line).collect()
+}
+
+/// One thread accesses every variable under all locks, or under all but one.
+pub fn every_variable(random: &mut Random) -> Vec<u32> {
+    let thread = random.below(THREADS as usize) as u32;
+    let mut words = all_locks(random, thread);
+    words.truncate(random.pick(&[LOCKS, LOCKS, LOCKS - 1]) as usize);
+    for variable in random.names(VARIABLES, VARIABLES as u32) {
+        words.push(access(random, thread, variable));
+    }
+    words
+}
+
+/// One thread takes all locks and releases one after another, with accesses of a variable and of
+/// its neighbour between; `left` locks of the variable's candidate set are still held at the last
+/// access. A lock that is taken again is not in the set any more.
+pub fn shrinking(random: &mut Random, variable: u32, left: usize) -> Vec<u32> {
+    let thread = random.below(THREADS as usize) as u32;
+    let mut held = random.names(LOCKS as usize, LOCKS);
+    let mut words = acquires(thread, &held);
+    words.push(access(random, thread, variable));
+    while held.len() > left {
+        let lock = held.swap_remove(random.below(held.len()));
+        words.push(word(RELEASE, thread, lock));
+        for _ in 0..random.pick(&[1, 1, 2, 3]) {
+            words.push(access(random, thread, variable));
+        }
+        if random.chance(200) {
+            words.push(access(random, thread, variable ^ 1));
+        }
+        if random.chance(50) {
+            words.push(word(ACQUIRE, thread, lock));
+        }
+    }
+    words
+}
+
+/// Threads in turn take some locks, access variables and release the locks; each turn keeps most of
+/// the locks of the turn before.
+pub fn turns(random: &mut Random) -> Vec<u32> {
+    let variables = random.names(2, VARIABLES as u32);
+    let mut locks = random.names(LOCKS as usize, LOCKS);
+    let mut words = Vec::new();
+    for _ in 0..random.between(1, 12) {
+        let thread = random.below(THREADS as usize) as u32;
+        let (begin, end) = (word(BEGIN, thread, 0), word(END, thread, 0));
+        let in_block = random.chance(500);
+        words.extend(in_block.then_some(begin));
+        random.shuffle(&mut locks);
+        words.extend(acquires(thread, &locks));
+        for _ in 0..random.between(1, 4) {
+            let variable = random.pick(&variables);
+            words.push(access(random, thread, variable));
+        }
+        random.shuffle(&mut locks);
+        words.extend(locks.iter().map(|&lock| word(RELEASE, thread, lock)));
+        words.extend(in_block.then_some(end));
+        locks.truncate(random.between(1, locks.len()));
+        let other = random.below(LOCKS as usize) as u32;
+        if random.chance(300) && !locks.contains(&other) {
+            locks.push(other);
+        }
+    }
+    words
+}
