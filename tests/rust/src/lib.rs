@@ -8,6 +8,7 @@ pub mod plain;
 pub mod random;
 pub mod random_case;
 pub mod table;
+pub mod words;
 
 pub const MOST_FRAMES: usize = 4096;
 pub const LINE_BYTES: usize = 33;

@@ -1,0 +1,859 @@
+//! Runs the program `tracetool` on files and compares all that it prints with the reference. Its
+//! lines must also be those of docs/TOOL.md, and no file may change.
+//! Arguments: the path of the program, then an optional seed.
+
+use std::collections::BTreeMap;
+use std::ffi::{OsStr, OsString};
+use std::fs::{self, File, Permissions};
+use std::os::unix::ffi::OsStrExt;
+use std::os::unix::fs::PermissionsExt;
+use std::path::PathBuf;
+use std::process::{Command, ExitCode, Stdio};
+use std::time::{Duration, SystemTime};
+use trace_tests::adversarial::{guard_lines, pairs};
+use trace_tests::case::{text, Call};
+use trace_tests::random::{damage_text, interleaved, text_of_words, Random};
+use trace_tests::random_case::{exact_list, random_case, random_list, random_recording};
+use trace_tests::words::{answer, GUARD_LIST, LEFT, MOST_BYTES, RECORDING, RIGHT};
+use trace_tests::VARIABLES;
+
+#[path = "../document.rs"]
+mod document;
+use document::{fits, templates, FILES};
+
+const DEFAULT_SEED: u64 = 1;
+const RANDOM_RECORDINGS: usize = 300;
+const RANDOM_PAIRS: usize = 400;
+const COMMANDS: [&str; 4] = ["verdict", "serial", "explain", "equal"];
+/// The commands on one recording.
+const JUDGING: [&str; 3] = ["verdict", "serial", "explain"];
+
+/// Done, or what went wrong.
+type Done = Result<(), String>;
+
+fn context<T>(result: std::io::Result<T>, what: &str) -> Result<T, String> {
+    result.map_err(|error| format!("{what}: {error}"))
+}
+
+// Files.
+
+/// The working folder, removed at the end.
+struct Folder(PathBuf);
+
+impl Folder {
+    fn enter() -> Result<Folder, String> {
+        let name = format!("tracetool-{}", std::process::id());
+        let path = std::env::temp_dir().join(name);
+        context(fs::create_dir(&path), "creating a folder")?;
+        let folder = Folder(path);
+        context(std::env::set_current_dir(&folder.0), "entering a folder")?;
+        Ok(folder)
+    }
+}
+
+impl Drop for Folder {
+    fn drop(&mut self) {
+        if let Err(error) = fs::remove_dir_all(&self.0) {
+            println!("{} is left: {error}", self.0.display());
+        }
+    }
+}
+
+fn read(name: &[u8]) -> Option<Vec<u8>> {
+    fs::read(OsStr::from_bytes(name)).ok()
+}
+
+/// Writes a file and makes it old, so that any later write shows.
+fn write(name: impl AsRef<[u8]>, content: &[u8]) -> Done {
+    let name = OsStr::from_bytes(name.as_ref());
+    context(fs::write(name, content), "writing a file")?;
+    let file = context(File::options().append(true).open(name), "opening a file")?;
+    let old = SystemTime::UNIX_EPOCH + Duration::from_secs(1_000_000_000);
+    context(file.set_modified(old), "setting a file's time")
+}
+
+/// Name, length, time of the last write and content.
+type Entry = (OsString, u64, SystemTime, Option<Vec<u8>>);
+
+/// All that is in the working folder.
+fn entries() -> Result<Vec<Entry>, String> {
+    let mut entries = Vec::new();
+    for entry in context(fs::read_dir("."), "listing the folder")? {
+        let entry = context(entry, "listing the folder")?;
+        let metadata = context(entry.metadata(), "looking at a file")?;
+        let modified = context(metadata.modified(), "looking at a file")?;
+        let content = fs::read(entry.path()).ok();
+        entries.push((entry.file_name(), metadata.len(), modified, content));
+    }
+    entries.sort();
+    Ok(entries)
+}
+
+// Counts.
+
+/// What a run is counted as.
+fn label(printed: &str) -> String {
+    let words: Vec<&str> = printed.split_whitespace().take(3).collect();
+    match words[..] {
+        ["refused:", _, number] => {
+            let file = FILES.iter().find(|file| printed.contains(*file));
+            format!("refusal {number} {}", file.unwrap_or(&""))
+        }
+        ["violation:", _, kind] => format!("kind {}", kind.trim_end_matches(',')),
+        [first @ ("reducible:" | "error:"), ..] => first.trim_end_matches(':').into(),
+        ["equal" | "not", ..] => printed.trim_end().into(),
+        [line] if line.len() == 32 => format!("kind {}", &line[..2]),
+        _ => "written".into(),
+    }
+}
+
+/// What must be seen of each command.
+fn required(command: &str) -> Vec<String> {
+    let refusals = |file: &str, numbers: &[usize]| -> Vec<String> {
+        let label = |number| format!("refusal {number}, {file}");
+        numbers.iter().map(label).collect()
+    };
+    let sound: &[usize] = &[1, 4, 5, 6, 7, 8, 9, 10];
+    let of_files = [
+        refusals(GUARD_LIST, &[1, 11, 12]),
+        refusals(RECORDING, sound),
+    ]
+    .concat();
+    let (answers, refused): (&[&str], Vec<String>) = match command {
+        "verdict" => {
+            let numbers = sound.iter().chain(&[11, 12]);
+            let kinds = numbers.map(|number| format!("kind {:02X}", 0x80 + number));
+            (
+                &["kind 00", "kind 01", "kind 02", "kind 03", "kind 04"],
+                kinds.collect(),
+            )
+        }
+        "serial" => (
+            &["written"],
+            [of_files, refusals(RECORDING, &[13, 14])].concat(),
+        ),
+        "explain" => (
+            &["reducible", "kind 1", "kind 2", "kind 3", "kind 4"],
+            of_files,
+        ),
+        _ => (
+            &["equal", "not equal"],
+            [refusals(LEFT, sound), refusals(RIGHT, sound)].concat(),
+        ),
+    };
+    let answers = answers
+        .iter()
+        .chain(&["error"])
+        .map(|answer| answer.to_string());
+    answers.chain(refused).collect()
+}
+
+/// The program itself lends buffers that are long enough.
+fn is_printed(template: &str) -> bool {
+    let start = |number: &usize| format!("refused: number {number},");
+    ![2, 3, 15, 16, 17]
+        .iter()
+        .any(|number| template.starts_with(&start(number)))
+}
+
+// Runs.
+
+struct Tool {
+    program: PathBuf,
+    /// By command and label.
+    counts: BTreeMap<(String, String), usize>,
+    /// The lines of docs/TOOL.md, and how often each was printed.
+    lines: Vec<(&'static str, usize)>,
+}
+
+fn shown<W: AsRef<[u8]>>(words: &[W]) -> String {
+    let quoted = words
+        .iter()
+        .map(|word| format!(" \"{}\"", word.as_ref().escape_ascii()));
+    format!("tracetool{}", quoted.collect::<String>())
+}
+
+fn reference<W: AsRef<[u8]>>(words: &[W]) -> Vec<u8> {
+    let words: Vec<&[u8]> = words.iter().map(|word| word.as_ref()).collect();
+    answer(&words, &read)
+}
+
+impl Tool {
+    /// All that the program prints.
+    fn run<W: AsRef<[u8]>>(&self, words: &[W]) -> Result<Vec<u8>, String> {
+        let before = entries()?;
+        let arguments = words.iter().map(|word| OsStr::from_bytes(word.as_ref()));
+        let mut command = Command::new(&self.program);
+        let output = command.args(arguments).stdin(Stdio::null()).output();
+        let output = context(output, "running the program")?;
+        if !output.stderr.is_empty() || !output.status.success() {
+            let (status, error) = (output.status, output.stderr.escape_ascii());
+            return Err(format!(
+                "{}: {status}, standard error \"{error}\"",
+                shown(words)
+            ));
+        }
+        if entries()? != before {
+            return Err(format!("{}: a file changed", shown(words)));
+        }
+        Ok(output.stdout)
+    }
+
+    /// One of these answers.
+    fn expect_one<W: AsRef<[u8]>>(&mut self, words: &[W], expected: &[Vec<u8>]) -> Done {
+        let printed = self.run(words)?;
+        if !expected.contains(&printed) {
+            let mut report = shown(words);
+            for text in expected {
+                report += &format!("\n  expected \"{}\"", text.escape_ascii());
+            }
+            return Err(format!(
+                "{report}\n  printed  \"{}\"",
+                printed.escape_ascii()
+            ));
+        }
+        let command = String::from_utf8_lossy(words[0].as_ref()).into_owned();
+        self.count(command, &String::from_utf8_lossy(&printed))
+    }
+
+    /// The reference's answer.
+    fn expect<W: AsRef<[u8]>>(&mut self, words: &[W]) -> Done {
+        self.expect_one(words, &[reference(words)])
+    }
+
+    /// This answer, which must be the reference's too.
+    fn expect_text<W: AsRef<[u8]>>(&mut self, words: &[W], text: &str) -> Done {
+        let reference = reference(words);
+        if reference != text.as_bytes() {
+            let reference = reference.escape_ascii();
+            return Err(format!(
+                "{}: the reference has \"{reference}\"",
+                shown(words)
+            ));
+        }
+        self.expect_one(words, &[reference])
+    }
+
+    fn count(&mut self, command: String, printed: &str) -> Done {
+        *self.counts.entry((command, label(printed))).or_default() += 1;
+        // Verdict lines and serial orders begin with a digit.
+        if !printed.starts_with(|first: char| first.is_ascii_digit()) {
+            for line in printed.lines() {
+                let mut known = self
+                    .lines
+                    .iter_mut()
+                    .filter(|(template, _)| fits(template, line));
+                let Some((_, count)) = known.next() else {
+                    return Err(format!("docs/TOOL.md has no line \"{line}\""));
+                };
+                *count += 1;
+            }
+        }
+        Ok(())
+    }
+}
+
+/// Each command on one recording, with inferred guards and with each of these lists.
+fn judge(tool: &mut Tool, recording: &[u8], lists: &[&[u8]]) -> Done {
+    write("recording", recording)?;
+    for command in JUDGING {
+        tool.expect(&[command, "recording"])?;
+    }
+    for list in lists {
+        write("list", list)?;
+        for command in JUDGING {
+            tool.expect(&[command, "recording", "--guards", "list"])?;
+        }
+    }
+    Ok(())
+}
+
+fn compare(tool: &mut Tool, left: &[u8], right: &[u8]) -> Done {
+    write("left", left)?;
+    write("right", right)?;
+    tool.expect(&["equal", "left", "right"])
+}
+
+// Recordings of document 01.
+
+const A: &str = "05010000 01010000 03010000 02010000 01010000 03010001 02010000 06010000";
+const C: &str = "05000000 05010000 01000000 04000000 02000000 01010000 04010000 06000000 \
+                 02010000 06010000";
+const D: &str = "03000005";
+const E: &str = "05000000 03000005 03000005";
+const F: &str = "05000000 03000005 06000000";
+const J: [&str; 2] = ["01000003 01010003", "01000003 02010003"];
+/// Thread 1's block comes first.
+const UNITS: &str = "05000000 05010000 03010000 06010000 03000000 06000000";
+/// Variable 5 under locks {1,2}, then {2,3}, then {3}.
+const SHARED: &str = "01000001 01000002 03000005 02000001 01000003 04000005 02000002 03000005";
+
+/// What is printed, given a recording and, for declared guards, a list.
+const LITERALS: [(&str, &str, Option<&str>, &str); 25] = [
+    ("verdict", A, None, "03000401000000030000000000000001\n"),
+    ("verdict", "", None, "00000000FFFFFFFF0000000000000000\n"),
+    ("verdict", C, None, "00000A00FFFFFFFF0000000000000000\n"),
+    ("verdict", D, None, "04000000FFFFFFFFFFFFFFFFFFFFFFFF\n"),
+    ("verdict", D, Some(""), "00000100FFFFFFFF0000000000000000\n"),
+    ("verdict", E, Some(""), "02000200000000010000000000000000\n"),
+    ("verdict", F, Some(""), "00000300FFFFFFFF0000000000000000\n"),
+    (
+        "verdict",
+        D,
+        Some("00050002"),
+        "01000000FFFFFFFF0000000000000004\n",
+    ),
+    ("verdict", J[0], None, "87000100FFFFFFFF0000000000000000\n"),
+    ("verdict", J[1], None, "88000100FFFFFFFF0000000000000000\n"),
+    (
+        "verdict",
+        SHARED,
+        None,
+        "04000700FFFFFFFF0000000000000004\n",
+    ),
+    (
+        "verdict",
+        D,
+        Some("04000000"),
+        "8B000000FFFFFFFF0000000000000000\n",
+    ),
+    ("serial", "", None, ""),
+    (
+        "serial",
+        C,
+        None,
+        "05000000\n01000000\n04000000\n02000000\n06000000\n\
+         05010000\n01010000\n04010000\n02010000\n06010000\n",
+    ),
+    (
+        "serial",
+        UNITS,
+        Some(""),
+        "05010000\n03010000\n06010000\n05000000\n03000000\n06000000\n",
+    ),
+    (
+        "serial",
+        "05000000",
+        None,
+        "refused: number 14, the block that begins at line 1 [0] of the recording is open at the \
+         end; add its end.\n",
+    ),
+    (
+        "serial",
+        A,
+        None,
+        "refused: number 13, the recording is not reducible, so there is no serial order; \
+         line 5 [4] goes wrong, and explain says why.\n",
+    ),
+    (
+        "explain",
+        F,
+        Some(""),
+        "reducible: no frame goes wrong; frames: 3.\n",
+    ),
+    (
+        "explain",
+        A,
+        None,
+        "violation: kind 3, acquire after commit, by thread 1.\n  \
+         The block begins at line 1 [0].\n  \
+         It commits at line 4 [3]: release of lock 0.\n  \
+         It goes wrong at line 5 [4]: acquire of lock 0.\n  \
+         A block takes no lock after its commit: between these lines another thread may change \
+         what the block has read or written.\n",
+    ),
+    (
+        "explain",
+        E,
+        Some(""),
+        "violation: kind 2, unprotected access after commit, by thread 0.\n  \
+         The block begins at line 1 [0].\n  \
+         It commits at line 2 [1]: read of variable 5.\n  \
+         It goes wrong at line 3 [2]: read of variable 5.\n  \
+         Variable 5 has no guard: another thread may change it, or what the block accessed \
+         before, between these lines.\n",
+    ),
+    (
+        "explain",
+        "05000000 04000005",
+        Some("00050002"),
+        "violation: kind 1, guard not held, by thread 0.\n  \
+         The block begins at line 1 [0] and has not committed.\n  \
+         It goes wrong at line 2 [1]: write of variable 5.\n  \
+         The guard of variable 5 is lock 2, and thread 0 does not hold it: another thread may \
+         access the variable at the same time.\n",
+    ),
+    (
+        "explain",
+        D,
+        None,
+        "violation: kind 4, candidate set emptied, by thread 0.\n  \
+         The thread is in no block.\n  \
+         It goes wrong at line 1 [0]: read of variable 5.\n  \
+         Locks left that may guard variable 5: all 64. Thread 0 holds none of them, so no one \
+         lock guards every access of the variable.\n",
+    ),
+    (
+        "explain",
+        "01000001 01000002 03000005 03010005",
+        None,
+        "violation: kind 4, candidate set emptied, by thread 1.\n  \
+         The thread is in no block.\n  \
+         It goes wrong at line 4 [3]: read of variable 5.\n  \
+         Locks left that may guard variable 5: 1, 2. Thread 1 holds none of them, so no one \
+         lock guards every access of the variable.\n",
+    ),
+    (
+        "explain",
+        J[0],
+        None,
+        "refused: number 7, line 2 [1] of the recording, acquire of lock 3 by thread 1, takes a \
+         lock that is held already; release it before this line.\n",
+    ),
+    (
+        "explain",
+        "x",
+        Some("00050002 04000000"),
+        "refused: number 11, line 2 [1] of the guard list names a variable above 03FF or a lock \
+         above 003F; mend the number.\n",
+    ),
+];
+
+/// H, I, and a left frame that is refused before a right line.
+const LITERAL_PAIRS: [(&str, &str, &str); 3] = [
+    ("03000000 03010001", "03010001 03000000", "equal\n"),
+    ("03000000 03010000", "03010000 03000000", "not equal\n"),
+    (
+        "05000000 07000000",
+        "x",
+        "refused: number 4, line 2 [1] of the left recording has an operation other than 01 to \
+         06; mend its digits 1 and 2.\n",
+    ),
+];
+
+fn literals(tool: &mut Tool) -> Done {
+    for (command, recording, list, printed) in LITERALS {
+        write("recording", &text(recording))?;
+        match list {
+            None => tool.expect_text(&[command, "recording"], printed)?,
+            Some(list) => {
+                write("list", &text(list))?;
+                tool.expect_text(&[command, "recording", "--guards", "list"], printed)?;
+            }
+        }
+    }
+    for (left, right, printed) in LITERAL_PAIRS {
+        write("left", &text(left))?;
+        write("right", &text(right))?;
+        tool.expect_text(&["equal", "left", "right"], printed)?;
+    }
+    Ok(())
+}
+
+fn bench_recordings(tool: &mut Tool) -> Done {
+    let fifteen = "05000000 ".repeat(15);
+    let sixteen = "05000000 ".repeat(16);
+    let recordings = [
+        "",
+        A,
+        C,
+        D,
+        E,
+        F,
+        J[0],
+        J[1],
+        UNITS,
+        SHARED,
+        &fifteen,
+        &sixteen,
+        "05000000",
+        "0100003F 030003FF",
+        "01000040",
+        "02000040",
+        "03000400",
+        "04000400",
+        "05000001",
+    ];
+    let lists = ["", "00050002", "00000000 00010000", "00050002 00050002"].map(text);
+    let lists: Vec<&[u8]> = lists.iter().map(|list| &list[..]).collect();
+    for left in recordings {
+        judge(tool, &text(left), &lists)?;
+        for right in [left, C, "", J[1]] {
+            compare(tool, &text(left), &text(right))?;
+        }
+    }
+    Ok(())
+}
+
+// Refusals.
+
+/// A text refused by each number.
+fn refused_texts() -> Vec<Vec<u8>> {
+    let mut texts = vec![b"05000000\n0600000a\n".to_vec()];
+    for words in [
+        "05000000 00000000",
+        "05000000 05200000",
+        "05000000 01000040",
+        J[0],
+        J[1],
+        &"051F0000 ".repeat(16),
+        "05000000 06000000 06000000",
+    ] {
+        texts.push(text(words));
+    }
+    texts
+}
+
+/// The list is checked before the recording, and the left recording whole before the right.
+fn refusals(tool: &mut Tool) -> Done {
+    let lists = [
+        b"00050002\n0006".to_vec(),
+        text("00050002 04000000"),
+        text("00050002 00050002"),
+    ];
+    let lists: Vec<&[u8]> = lists.iter().map(|list| &list[..]).collect();
+    let good = text("05000000 06000000");
+    judge(tool, &good, &lists)?;
+    for left in refused_texts() {
+        judge(tool, &left, &lists)?;
+        compare(tool, &good, &left)?;
+        compare(tool, &left, &good)?;
+        for right in refused_texts() {
+            compare(tool, &left, &right)?;
+        }
+    }
+    Ok(())
+}
+
+// Random recordings.
+
+fn random_recordings(tool: &mut Tool, random: &mut Random) -> Done {
+    for _ in 0..RANDOM_RECORDINGS {
+        let made = match random.below(3) {
+            0 => interleaved(random, 6, true),
+            1 => random_recording(random, Call::Check, false),
+            _ => random_recording(random, Call::Declared, false),
+        };
+        let mut recording = text_of_words(&made.words);
+        match random.below(20) {
+            0 => recording = (0..random.below(40)).map(|_| random.draw() as u8).collect(),
+            1..3 => damage_text(random, &mut recording),
+            _ => {}
+        }
+        let list = match random.below(3) {
+            0 => random_list(random, &made.guards),
+            _ => exact_list(random, &made.guards),
+        };
+        judge(tool, &recording, &[&list, b""])?;
+    }
+    Ok(())
+}
+
+fn random_pairs(tool: &mut Tool, random: &mut Random) -> Done {
+    for _ in 0..RANDOM_PAIRS {
+        let case = random_case(random, Call::Equal, false);
+        let mut texts = [text_of_words(&case.frames), text_of_words(&case.right)];
+        for text in &mut texts {
+            if random.chance(50) {
+                damage_text(random, text);
+            }
+            text.truncate(MOST_BYTES);
+        }
+        compare(tool, &texts[0], &texts[1])?;
+    }
+    Ok(())
+}
+
+// Files and their names.
+
+/// A file as a recording, as a list, as the left and as the right recording; the others are good.
+fn in_each_place<N: AsRef<[u8]>>(tool: &mut Tool, name: N) -> Done {
+    let name = name.as_ref();
+    write("good", &text(A))?;
+    write("list", &text("00000000 00010000"))?;
+    for command in JUDGING {
+        tool.expect(&[command.as_bytes(), name])?;
+        tool.expect(&[command.as_bytes(), name, b"--guards", b"list"])?;
+        tool.expect(&[command.as_bytes(), b"good", b"--guards", name])?;
+    }
+    for (left, right) in [(name, &b"good"[..]), (b"good", name), (name, name)] {
+        tool.expect(&[b"equal", left, right])?;
+    }
+    Ok(())
+}
+
+/// Files as long as can be, and longer.
+fn lengths(tool: &mut Tool) -> Done {
+    let most = text_of_words(&pairs(MOST_BYTES / 9));
+    let list = text_of_words(&guard_lines(&mut Random::new(0), VARIABLES));
+    let mut contents = vec![
+        most.clone(),
+        list,
+        vec![b'\n'; MOST_BYTES],
+        vec![b'0'; MOST_BYTES],
+    ];
+    for longer in [MOST_BYTES + 1, MOST_BYTES + 9, 1_000_000] {
+        contents.push(most.iter().copied().cycle().take(longer).collect());
+    }
+    for content in contents {
+        write("recording", &content)?;
+        in_each_place(tool, "recording")?;
+    }
+    let too_long = "error: longer than any recording (4096 lines, 36864 bytes): recording\n";
+    tool.expect_text(&["verdict", "recording"], too_long)
+}
+
+/// Names that a shell would change, that are no UTF-8, and that are as long as can be.
+fn names(tool: &mut Tool) -> Done {
+    let long = format!("{}recording", "./".repeat(2043));
+    assert_eq!(long.len(), 4095);
+    write("recording", &text(A))?;
+    tool.expect_text(&["verdict", &long], "03000401000000030000000000000001\n")?;
+    in_each_place(tool, &long)?;
+    for name in [
+        &b"a recording"[..],
+        b" ",
+        b"-",
+        b"--guard",
+        b"*",
+        b"$HOME",
+        b"'\"",
+        b"\xFF",
+    ] {
+        write(name, &text(A))?;
+        in_each_place(tool, name)?;
+        context(fs::remove_file(OsStr::from_bytes(name)), "removing a file")?;
+    }
+    Ok(())
+}
+
+fn unreadable(tool: &mut Tool) -> Done {
+    context(fs::create_dir("folder"), "creating a folder")?;
+    let long = ["m".repeat(255), "/m".repeat(1920)].concat();
+    assert_eq!(long.len(), 4095);
+    for name in [
+        "missing",
+        "folder",
+        ".",
+        "recording/",
+        "missing/recording",
+        &long,
+        &"m".repeat(5000),
+    ] {
+        in_each_place(tool, name)?;
+        tool.expect_text(&["verdict", name], &format!("error: cannot read {name}\n"))?;
+    }
+    write("closed", &text(A))?;
+    context(
+        fs::set_permissions("closed", Permissions::from_mode(0o000)),
+        "closing a file",
+    )?;
+    if read(b"closed").is_some() {
+        println!("skipped: a file without permission, which this process may read");
+    } else {
+        tool.expect_text(&["verdict", "closed"], "error: cannot read closed\n")?;
+        in_each_place(tool, "closed")?;
+    }
+    // A file that may only be read.
+    context(
+        fs::set_permissions("closed", Permissions::from_mode(0o444)),
+        "opening a file",
+    )?;
+    in_each_place(tool, "closed")
+}
+
+/// Two faults. Where one of them is the recording that cannot be read, or the right one, the
+/// document leaves open which is told.
+fn two_faults(tool: &mut Tool) -> Done {
+    write("refused", &text(J[0]))?;
+    write("list", b"x")?;
+    let error = |name: &str| format!("error: cannot read {name}\n").into_bytes();
+    let both = [error("missing"), error("absent")];
+    tool.expect_one(&["equal", "missing", "absent"], &both)?;
+    let refused = reference(&["equal", "refused", "refused"]);
+    tool.expect_one(&["equal", "refused", "absent"], &[refused, error("absent")])?;
+    tool.expect(&["equal", "absent", "refused"])?;
+    for command in JUDGING {
+        tool.expect_one(&[command, "missing", "--guards", "absent"], &both)?;
+        let refused = reference(&[command, "refused", "--guards", "list"]);
+        let words = [command, "absent", "--guards", "list"];
+        tool.expect_one(&words, &[refused, error("absent")])?;
+        tool.expect(&[command, "refused", "--guards", "absent"])?;
+    }
+    Ok(())
+}
+
+// Bad use.
+
+fn no_such_command(tool: &mut Tool) -> Done {
+    for name in [
+        "judge",
+        "",
+        " ",
+        "Verdict",
+        "verdicts",
+        "verdic",
+        "equal ",
+        "help",
+        "--help",
+        "--guards",
+        "recording",
+    ] {
+        let printed = format!("error: no such command: {name}\n");
+        tool.expect_text(&[name], &printed)?;
+        tool.expect_text(&[name, "recording"], &printed)?;
+        tool.expect_text(&[name, "recording", "--guards", "list"], &printed)?;
+    }
+    tool.expect(&[b"\xFF\xFE"])
+}
+
+/// Words that are none of the uses of the commands on one recording.
+const WRONG: [&str; 15] = [
+    "",
+    "recording list",
+    "recording --guards",
+    "recording recording list",
+    "recording --guard list",
+    "recording -guards list",
+    "recording --Guards list",
+    "recording --guardss list",
+    "recording --guards=list",
+    "recording list --guards",
+    "--guards list",
+    "--guards list recording",
+    "recording --guards list list",
+    "recording --guards list --guards list",
+    "missing --guard missing",
+];
+
+fn wrong_use(tool: &mut Tool) -> Done {
+    for command in JUDGING {
+        let printed = format!("error: use: tracetool {command} RECORDING [--guards LIST]\n");
+        for operands in WRONG {
+            let words = format!("{command} {operands}");
+            let words: Vec<&str> = words.split_whitespace().collect();
+            tool.expect_text(&words, &printed)?;
+        }
+        tool.expect_text(&[command, "recording", "", "list"], &printed)?;
+    }
+    let printed = "error: use: tracetool equal LEFT RIGHT\n";
+    for words in [
+        &["equal"][..],
+        &["equal", "recording"],
+        &["equal", "recording", "recording", "recording"],
+        &["equal", "recording", "recording", "--guards", "list"],
+    ] {
+        tool.expect_text(words, printed)?;
+    }
+    Ok(())
+}
+
+fn empty_names(tool: &mut Tool) -> Done {
+    let printed = "error: a file name is empty\n";
+    for command in JUDGING {
+        tool.expect_text(&[command, ""], printed)?;
+        tool.expect_text(&[command, "", "--guards", "list"], printed)?;
+        tool.expect_text(&[command, "recording", "--guards", ""], printed)?;
+    }
+    tool.expect_text(&["equal", "", "recording"], printed)?;
+    tool.expect_text(&["equal", "recording", ""], printed)
+}
+
+fn bad_use(tool: &mut Tool) -> Done {
+    write("recording", &text(A))?;
+    write("list", &text("00000000 00010000"))?;
+    no_such_command(tool)?;
+    wrong_use(tool)?;
+    empty_names(tool)
+}
+
+/// The document gives the first word of the help alone.
+fn help(tool: &mut Tool) -> Done {
+    let printed = tool.run::<&str>(&[])?;
+    let printed = String::from_utf8_lossy(&printed);
+    let named = |command: &&str| printed.contains(command);
+    let first = printed.split_whitespace().next();
+    if first != Some("usage:") || !COMMANDS.iter().all(named) || !printed.ends_with('\n') {
+        return Err(format!("the help is \"{printed}\""));
+    }
+    Ok(())
+}
+
+// All of it.
+
+/// Prints the counts; an answer that the program can give and did not is a failure.
+fn report(tool: &Tool) -> Done {
+    let mut absent = Vec::new();
+    for command in COMMANDS {
+        let of_command = tool.counts.iter().filter(|((name, _), _)| name == command);
+        let runs: usize = of_command.map(|(_, count)| count).sum();
+        let mut counts = Vec::new();
+        for label in required(command) {
+            let count = tool.counts.get(&(command.into(), label.clone()));
+            counts.push(format!("{label}: {}", count.unwrap_or(&0)));
+            if count.is_none() {
+                absent.push(format!("{command}: {label}"));
+            }
+        }
+        println!("{command}: {runs} runs; {}", counts.join("; "));
+    }
+    let others = tool
+        .counts
+        .iter()
+        .filter(|((name, _), _)| !COMMANDS.contains(&&name[..]));
+    let runs: usize = others.map(|(_, count)| count).sum();
+    println!("no such command: {runs} runs");
+    for (line, count) in &tool.lines {
+        if *count == 0 && is_printed(line) {
+            absent.push(line.to_string());
+        }
+    }
+    if !absent.is_empty() {
+        return Err(format!("never printed:\n  {}", absent.join("\n  ")));
+    }
+    Ok(())
+}
+
+fn test(program: &OsStr, seed: u64) -> Result<usize, String> {
+    let program = context(fs::canonicalize(program), "finding the program")?;
+    let _folder = Folder::enter()?;
+    let mut tool = Tool {
+        program,
+        counts: BTreeMap::new(),
+        lines: templates().into_iter().map(|line| (line, 0)).collect(),
+    };
+    let random = &mut Random::new(seed);
+    help(&mut tool)?;
+    literals(&mut tool)?;
+    bench_recordings(&mut tool)?;
+    refusals(&mut tool)?;
+    bad_use(&mut tool)?;
+    lengths(&mut tool)?;
+    names(&mut tool)?;
+    unreadable(&mut tool)?;
+    two_faults(&mut tool)?;
+    random_recordings(&mut tool, random)?;
+    random_pairs(&mut tool, random)?;
+    report(&tool)?;
+    Ok(tool.counts.values().sum())
+}
+
+fn main() -> ExitCode {
+    let mut arguments = std::env::args_os().skip(1);
+    let program = arguments.next().expect("the path of the program");
+    let seed = arguments.next().map_or(DEFAULT_SEED, |seed| {
+        let seed = seed.to_str().and_then(|seed| seed.parse().ok());
+        seed.expect("the seed is a number")
+    });
+    println!("tool: seed {seed}");
+    match test(&program, seed) {
+        Ok(runs) => {
+            println!("tool: {runs} runs, all as the reference");
+            ExitCode::SUCCESS
+        }
+        Err(reason) => {
+            println!("FAILED: {reason}");
+            ExitCode::FAILURE
+        }
+    }
+}

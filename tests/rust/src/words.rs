@@ -1,0 +1,288 @@
+//! What `tracetool` prints, written from docs/TOOL.md and document 01 alone.
+
+use crate::{
+    check_recording, declared_verdict, equal, inferred_verdict, read_guards, read_text,
+    serial_places, verdict_line, Frame, Refusal, Verdict, Violation, MOST_FRAMES,
+};
+use std::collections::BTreeMap;
+
+/// The length of the longest recording's text.
+pub const MOST_BYTES: usize = 9 * MOST_FRAMES;
+
+pub const RECORDING: &str = "the recording";
+pub const GUARD_LIST: &str = "the guard list";
+pub const LEFT: &str = "the left recording";
+pub const RIGHT: &str = "the right recording";
+
+/// The content of the file of a name, if it can be read.
+pub type Files<'a> = &'a dyn Fn(&[u8]) -> Option<Vec<u8>>;
+
+// Command lines.
+
+/// All that is printed for these words, of which there is at least one.
+pub fn answer(words: &[&[u8]], files: Files) -> Vec<u8> {
+    match command(words, files) {
+        Ok(printed) => printed.into_bytes(),
+        Err(error) => [b"error: ", &error[..], b"\n"].concat(),
+    }
+}
+
+/// All files are read before any is checked; an error is the first of a list, then a recording.
+fn command(words: &[&[u8]], files: Files) -> Result<String, Vec<u8>> {
+    let (recording, list) = match words {
+        [b"equal", left, right] => {
+            let (left, right) = (content(left, files)?, content(right, files)?);
+            return Ok(compare(&left, &right));
+        }
+        [b"equal", ..] => return Err(b"use: tracetool equal LEFT RIGHT".to_vec()),
+        [b"verdict" | b"serial" | b"explain", recording] => (recording, None),
+        [b"verdict" | b"serial" | b"explain", recording, b"--guards", list] => {
+            (recording, Some(content(list, files)?))
+        }
+        [command @ (b"verdict" | b"serial" | b"explain"), ..] => {
+            let operands = b" RECORDING [--guards LIST]";
+            return Err([b"use: tracetool ", *command, operands].concat());
+        }
+        _ => return Err([b"no such command: ", words[0]].concat()),
+    };
+    let recording = content(recording, files)?;
+    let printed = match words[0] {
+        b"verdict" => verdict,
+        b"serial" => serial,
+        _ => explain,
+    };
+    Ok(printed(&recording, list.as_deref()))
+}
+
+fn content(name: &[u8], files: Files) -> Result<Vec<u8>, Vec<u8>> {
+    if name.is_empty() {
+        return Err(b"a file name is empty".to_vec());
+    }
+    let Some(content) = files(name) else {
+        return Err([b"cannot read ", name].concat());
+    };
+    if content.len() > MOST_BYTES {
+        let too_long = b"longer than any recording (4096 lines, 36864 bytes): ";
+        return Err([too_long, name].concat());
+    }
+    Ok(content)
+}
+
+// Answers.
+
+struct Refused {
+    refusal: Refusal,
+    file: &'static str,
+    /// The word of the frame; 0 if there is none.
+    word: u32,
+}
+
+fn refused(refusal: Refusal, file: &'static str, words: &[u32]) -> Refused {
+    let word = words.get(refusal.place).copied().unwrap_or(0);
+    Refused {
+        refusal,
+        file,
+        word,
+    }
+}
+
+fn sound(text: &[u8], file: &'static str) -> Result<(Vec<u32>, Vec<Frame>), Refused> {
+    let words = read_text(text).map_err(|refusal| refused(refusal, file, &[]))?;
+    match check_recording(&words) {
+        Ok(frames) => Ok((words, frames)),
+        Err(refusal) => Err(refused(refusal, file, &words)),
+    }
+}
+
+struct Judged {
+    words: Vec<u32>,
+    frames: Vec<Frame>,
+    /// None if the guards are inferred.
+    guards: Option<BTreeMap<u16, u16>>,
+    verdict: Verdict,
+}
+
+fn judge(recording: &[u8], list: Option<&[u8]>) -> Result<Judged, Refused> {
+    let guards = list.map(read_guards).transpose();
+    let guards = guards.map_err(|refusal| refused(refusal, GUARD_LIST, &[]))?;
+    let (words, frames) = sound(recording, RECORDING)?;
+    let verdict = match &guards {
+        Some(guards) => declared_verdict(&frames, guards),
+        None => inferred_verdict(&frames).0,
+    };
+    Ok(Judged {
+        words,
+        frames,
+        guards,
+        verdict,
+    })
+}
+
+fn verdict(recording: &[u8], list: Option<&[u8]>) -> String {
+    let verdict = judge(recording, list).map(|judged| judged.verdict);
+    verdict_line(verdict.map_err(|refused| refused.refusal)).1
+}
+
+fn serial_words(recording: &[u8], list: Option<&[u8]>) -> Result<Vec<u32>, Refused> {
+    let judged = judge(recording, list)?;
+    if let Verdict::Violation(Violation { frame: place, .. }) = judged.verdict {
+        let refusal = Refusal { number: 13, place };
+        return Err(refused(refusal, RECORDING, &judged.words));
+    }
+    let declared = judged.guards.as_ref();
+    let unprotected = |variable| declared.is_some_and(|guards| !guards.contains_key(&variable));
+    match serial_places(&judged.frames, unprotected) {
+        Ok(places) => Ok(places.iter().map(|&place| judged.words[place]).collect()),
+        Err(refusal) => Err(refused(refusal, RECORDING, &judged.words)),
+    }
+}
+
+fn serial(recording: &[u8], list: Option<&[u8]>) -> String {
+    match serial_words(recording, list) {
+        Ok(words) => words.iter().map(|word| format!("{word:08X}\n")).collect(),
+        Err(refused) => refusal_text(&refused),
+    }
+}
+
+fn compare(left: &[u8], right: &[u8]) -> String {
+    let both = sound(left, LEFT).and_then(|left| Ok((left.0, sound(right, RIGHT)?.0)));
+    match both {
+        Ok((left, right)) if equal(&left, &right) == 1 => "equal\n".into(),
+        Ok(_) => "not equal\n".into(),
+        Err(refused) => refusal_text(&refused),
+    }
+}
+
+fn explain(recording: &[u8], list: Option<&[u8]>) -> String {
+    match judge(recording, list) {
+        Ok(judged) => match judged.verdict {
+            Verdict::Reducible { frames } => {
+                format!("reducible: no frame goes wrong; frames: {frames}.\n")
+            }
+            Verdict::Violation(violation) => violation_text(&violation, &judged.words),
+        },
+        Err(refused) => refusal_text(&refused),
+    }
+}
+
+// Texts.
+
+fn line_at(place: usize) -> String {
+    format!("line {} [{place}]", place + 1)
+}
+
+fn action(word: u32) -> String {
+    let object = word & 0xFFFF;
+    match word >> 24 {
+        1 => format!("acquire of lock {object}"),
+        2 => format!("release of lock {object}"),
+        3 => format!("read of variable {object}"),
+        4 => format!("write of variable {object}"),
+        5 => "begin".into(),
+        _ => "end".into(),
+    }
+}
+
+fn locks_text(locks: u64) -> String {
+    let numbers = (0..64).filter(|lock| locks >> lock & 1 == 1);
+    let numbers: Vec<String> = numbers.map(|lock| lock.to_string()).collect();
+    match numbers.len() {
+        0 => "none".into(),
+        64 => "all 64".into(),
+        _ => numbers.join(", "),
+    }
+}
+
+fn violation_text(violation: &Violation, words: &[u32]) -> String {
+    let (thread, place) = (violation.thread, violation.frame);
+    let kind = match violation.kind {
+        1 => "kind 1, guard not held",
+        2 => "kind 2, unprotected access after commit",
+        3 => "kind 3, acquire after commit",
+        _ => "kind 4, candidate set emptied",
+    };
+    let block = match (violation.begin, violation.commit) {
+        (None, _) => "  The thread is in no block.\n".into(),
+        (Some(begin), None) => {
+            format!(
+                "  The block begins at {} and has not committed.\n",
+                line_at(begin)
+            )
+        }
+        (Some(begin), Some(commit)) => format!(
+            "  The block begins at {}.\n  It commits at {}: {}.\n",
+            line_at(begin),
+            line_at(commit),
+            action(words[commit])
+        ),
+    };
+    let (line, action) = (line_at(place), action(words[place]));
+    let reason = reason(violation, words[place] & 0xFFFF);
+    format!(
+        "violation: {kind}, by thread {thread}.\n{block}  It goes wrong at {line}: {action}.\n  {reason}\n"
+    )
+}
+
+fn reason(violation: &Violation, variable: u32) -> String {
+    let (thread, locks) = (violation.thread, locks_text(violation.locks));
+    match violation.kind {
+        1 => format!(
+            "The guard of variable {variable} is lock {locks}, and thread {thread} does not hold it: \
+             another thread may access the variable at the same time."
+        ),
+        2 => format!(
+            "Variable {variable} has no guard: another thread may change it, or what the block \
+             accessed before, between these lines."
+        ),
+        3 => "A block takes no lock after its commit: between these lines another thread may change \
+              what the block has read or written."
+            .into(),
+        _ => format!(
+            "Locks left that may guard variable {variable}: {locks}. Thread {thread} holds none of \
+             them, so no one lock guards every access of the variable."
+        ),
+    }
+}
+
+fn refusal_text(refused: &Refused) -> String {
+    let Refusal { number, place } = refused.refusal;
+    let line = format!("{} of {}", line_at(place), refused.file);
+    let (file, thread) = (refused.file, refused.word >> 16 & 255);
+    let frame = format!("{line}, {} by thread {thread}", action(refused.word));
+    let reason = match number {
+        1 => format!(
+            "{line} is not eight digits 0-9 A-F and one LF; write it so, without blanks, lower case \
+             or CR, and end the last line."
+        ),
+        4 => format!("{line} has an operation other than 01 to 06; mend its digits 1 and 2."),
+        5 => format!("{line} has a thread above 1F; mend its digits 3 and 4."),
+        6 => format!(
+            "{line} has an object out of range; locks go up to 003F, variables up to 03FF, and a \
+             begin or an end has 0000."
+        ),
+        7 => format!(
+            "{frame}, takes a lock that is held already; release it before this line."
+        ),
+        8 => format!(
+            "{frame}, lets go a lock that this thread does not hold; acquire it first or drop the \
+             line."
+        ),
+        9 => format!("{line} is a begin inside 15 open blocks of thread {thread}; nest at most 15."),
+        10 => format!(
+            "{line} is an end where thread {thread} has no open block; add its begin or drop the \
+             line."
+        ),
+        11 => format!(
+            "{line} names a variable above 03FF or a lock above 003F; mend the number."
+        ),
+        12 => format!("{line} names a variable that an earlier line names; keep one of the two."),
+        13 => format!(
+            "{file} is not reducible, so there is no serial order; {} goes wrong, and explain says \
+             why.",
+            line_at(place)
+        ),
+        14 => format!("the block that begins at {line} is open at the end; add its end."),
+        _ => unreachable!("the tool lends enough of everything"),
+    };
+    format!("refused: number {number}, {reason}\n")
+}
