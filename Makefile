@@ -1,14 +1,20 @@
-# make test    all tests: the Rattle gate, the comparison with the Rust program, the C test, the program's runs
-# make bench   the benchmark against plain Rust
-# make lib     target/staticlib/libtrace.a and libtraceorder.a for C programs
-# make clean   remove what was built
-.PHONY: test bench lib clean
+# make test      all tests: the Rattle gate, the comparison with the Rust program, the soak, the C test, the programs' runs, the examples
+# make bench     the benchmark against plain Rust
+# make lib       target/staticlib/libtrace.a and libtraceorder.a for C programs
+# make programs  target/bin/tracecheck and tracetool
+# make lines     lines of code, definitions and proofs of each crate
+# make clean     remove what was built
+.PHONY: test bench lib programs lines clean
 test:
 	@tests/gate
 lib:
 	@rt staticlib trace >/dev/null
 	@rt staticlib traceorder >/dev/null
+programs:
+	@rt check tracecheck tracetool >/dev/null
 bench: lib
 	@tests/bench
+lines:
+	@tests/lines
 clean:
 	@rm -rf target
