@@ -1,9 +1,9 @@
 -- What the calls for the serial order answer and leave, step by step.
 use Prim.Native.Nat.{ℕ, _≤_, _<_}
-use mathlib.Core.Path.{_≡_, refl}
+use mathlib.Core.Path.{_≡_, refl, sym, ap, _∙_}
 use mathlib.Core.Bool.{Bool, true, false, not}
 use mathlib.Core.List.{List, _++_}
-use borrow.Author.Tests.{lt-ltb, le-ltb}
+use borrow.Author.Tests.{lt-ltb, le-ltb, not-true, not-false}
 use lib.ListN.{length, drop}
 use Rattle.frame.proofs.Shared.{never}
 use Rattle.frame.specs.declared.Refusal.the-variants as refusal
@@ -18,25 +18,23 @@ use Rattle.serial.specs.Walk.{endPoint, firstOpen}
 use Rattle.order.specs.Order.{refused, reducibleReply, irreducible, orderReply, orderOut, outAfter}
 use Rattle.order.specs.declared.OrderReply.the-variants as order
 
--- a test turned round
-pub turned-true : (b : Bool) → not b ≡ true → b ≡ false
-turned-true true e = let z : _≡_ {A = ℕ} 0 1 = cc in never z
-turned-true false e = refl
+-- a reply that the code's test lets pass
+pub says-reducible : (q r : Reply) (b : Bool) → q ≡ r → b ≡ not (reducibleReply q) → b ≡ false → r ≡ reducible
+says-reducible q r b e t f = sym e ∙ go q (not-false (reducibleReply q) (sym t ∙ f))
+  where
+    go : (x : Reply) → reducibleReply x ≡ true → x ≡ reducible
+    go (reply.Refused x) z = never (cc)
+    go (reply.Judged verdict.Reducible) z = refl
+    go (reply.Judged (verdict.Violated v)) z = never (cc)
 
-pub turned-false : (b : Bool) → not b ≡ false → b ≡ true
-turned-false true e = refl
-turned-false false e = let z : _≡_ {A = ℕ} 0 1 = cc in never z
-
--- a reply that says reducible
-pub says-reducible : (r : Reply) → reducibleReply r ≡ true → r ≡ reducible
-says-reducible (reply.Refused x) e = let z : _≡_ {A = ℕ} 0 1 = cc in never z
-says-reducible (reply.Judged verdict.Reducible) e = refl
-says-reducible (reply.Judged (verdict.Violated v)) e = let z : _≡_ {A = ℕ} 0 1 = cc in never z
+-- and one that it holds up
+pub says-irreducible : (q r : Reply) (b : Bool) → q ≡ r → b ≡ not (reducibleReply q) → b ≡ true → reducibleReply r ≡ false
+says-irreducible q r b e t f = ap reducibleReply (sym e) ∙ not-true (reducibleReply q) (sym t ∙ f)
 
 -- a refusal leaves the output
 irreducible-out : (r : Reply) (words out : List ℕ) → reducibleReply r ≡ false → outAfter (irreducible r) words out ≡ out
 irreducible-out (reply.Refused x) words out e = refl
-irreducible-out (reply.Judged verdict.Reducible) words out e = let z : _≡_ {A = ℕ} 0 1 = cc in never z
+irreducible-out (reply.Judged verdict.Reducible) words out e = never (cc)
 irreducible-out (reply.Judged (verdict.Violated v)) words out e = refl
 
 module _ (guards ws out : List ℕ) where
@@ -49,7 +47,7 @@ module _ (guards ws out : List ℕ) where
     unfolding orderOut
     not-reducible-out = rw not-reducible (irreducible-out (judgement guards fullSets ws .reply) (serialWords guards ws) out e)
 
-  module _ (e : reducibleReply (judgement guards fullSets ws .reply) ≡ true) where
+  module _ (e : judgement guards fullSets ws .reply ≡ reducible) where
     module _ (b : ℕ) (o : firstOpen (endPoint guards ws) ≡ At b) where
       pub still-open : orderReply guards ws (length out) ≡ refused refusal.OpenBlock b
       unfolding orderReply

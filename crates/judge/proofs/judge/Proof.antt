@@ -1,7 +1,6 @@
 -- Each arm's answer is a law of proofs/Laws at the values that the code has there, after the operation's case is put in.
 use mathlib.Core.Path.{sym, _∙_}
 use native.Mathlib.Omega.{arith}
-use borrow.Author.Needs.{needs}
 use lib.ListN.{getD}
 use borrow.Author.Tests.{eq-eqb, ne-eqb}
 use Rattle.judge.specs.Rules.{judgeOperation, judgingOf, withCommit, committed}

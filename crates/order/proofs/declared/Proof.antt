@@ -1,5 +1,4 @@
 use mathlib.Core.Path.{sym, ap, _∙_}
-use borrow.Author.Needs.{needs}
 use Rattle.guards.specs.declared.GuardsRead.{GuardsRead}
 use Rattle.order.specs.Order.{declaredOrder, declaredOut, orderOut}
 use borrow.Author.Needs.{needs}

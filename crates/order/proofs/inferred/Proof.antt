@@ -1,4 +1,3 @@
-use borrow.Author.Needs.{needs}
 use Rattle.verdict.specs.Verdict.{inferredGuards}
 use Rattle.order.specs.Order.{inferredOrder, inferredOut}
 use borrow.Author.Needs.{needs}

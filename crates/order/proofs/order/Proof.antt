@@ -1,11 +1,10 @@
 use mathlib.Core.Path.{sym, _∙_}
 use native.Mathlib.Omega.{arith}
-use borrow.Author.Needs.{needs}
 use Rattle.reply.specs.declared.Verdict.the-variants.{Reducible}
 use Rattle.pass.specs.Pass.{fullSets, judgement}
 use Rattle.pass.proofs.Judgement.{judgement-fits}
 use Rattle.demand.proofs.Demand.{walk-is-order, order-length, closed-open}
-use Rattle.order.proofs.Laws.{turned-true, turned-false, says-reducible, not-reducible, not-reducible-out, still-open, still-open-out, no-room, no-room-out, is-written, is-written-out}
+use Rattle.order.proofs.Laws.{says-reducible, says-irreducible, not-reducible, not-reducible-out, still-open, still-open-out, no-room, no-room-out, is-written, is-written-out}
 use borrow.Author.Needs.{needs}
 use Rattle.order.proofs.order.Statement.{statement}
 use Rattle.order.proofs.order.Tie as tie
@@ -26,7 +25,7 @@ returns c =
     let g = a .guards .now in
     let ws = a .words .now in
     let j = c .before .before .before .judge-recording .ensures .0 in
-    let t = turned-true _ (rw j at (sym (c .before .before .is-irreducible .ensures) ∙ c .before .if1 .taken)) in
+    let t = says-irreducible _ (judgement g fullSets ws .reply) _ j (c .before .before .is-irreducible .ensures) (c .before .if1 .taken) in
     (c .refusal .ensures ∙ rw j (sym (not-reducible g ws (a .out .now) t)), sym (not-reducible-out g ws (a .out .now) t))
 
 end-marks-requires : tie.Need-end-marks-requires
@@ -36,8 +35,7 @@ end-marks-requires c κs =
     let g = a .guards .now in
     let ws = a .words .now in
     let j = c .before .before .judge-recording .ensures .0 in
-    let t = turned-false _ (rw j at (sym (c .before .is-irreducible .ensures) ∙ c .if1 .left)) in
-    let r = says-reducible (judgement g fullSets ws .reply) t in
+    let r = says-reducible _ (judgement g fullSets ws .reply) _ j (c .before .is-irreducible .ensures) (c .if1 .left) in
     judgement-fits g fullSets ws Reducible r
 
 first-open-requires : tie.Need-first-open-requires
@@ -53,11 +51,10 @@ returns-2 c =
     let g = a .guards .now in
     let ws = a .words .now in
     let j = c .before .before .before .before .before .before .before .judge-recording .ensures .0 in
-    let t = turned-false _ (rw j at (sym (c .before .before .before .before .before .before .is-irreducible .ensures) ∙ c .before .before .before .before .before .if1 .left)) in
-    let r = says-reducible (judgement g fullSets ws .reply) t in
+    let r = says-reducible _ (judgement g fullSets ws .reply) _ j (c .before .before .before .before .before .before .is-irreducible .ensures) (c .before .before .before .before .before .if1 .left) in
     let o = rw (c .before .before .before .before .end-marks .ensures .0, c .before .before .before .before .end-marks .ensures .1) at (c .before .before .before .first-open .ensures) in
     let w = sym o ∙ c .before .«open» .given .1 in
-    (sym (still-open g ws (a .out .now) t _ w), sym (still-open-out g ws (a .out .now) t _ w))
+    (sym (still-open g ws (a .out .now) r _ w), sym (still-open-out g ws (a .out .now) r _ w))
 
 enum-told : tie.Need-enum-told
 enum-told c = search needs
@@ -69,8 +66,7 @@ cast-n c =
     let g = a .guards .now in
     let ws = a .words .now in
     let j = c .before .before .before .before .before .before .judge-recording .ensures .0 in
-    let t = turned-false _ (rw j at (sym (c .before .before .before .before .before .is-irreducible .ensures) ∙ c .before .before .before .before .if1 .left)) in
-    let r = says-reducible (judgement g fullSets ws .reply) t in
+    let r = says-reducible _ (judgement g fullSets ws .reply) _ j (c .before .before .before .before .before .is-irreducible .ensures) (c .before .before .before .before .if1 .left) in
     omega (arith, judgement-fits g fullSets ws Reducible r)
 
 returns-3 : tie.Need-returns-3
@@ -80,11 +76,10 @@ returns-3 c =
     let g = a .guards .now in
     let ws = a .words .now in
     let j = c .before .before .before .before .before .before .before .judge-recording .ensures .0 in
-    let t = turned-false _ (rw j at (sym (c .before .before .before .before .before .before .is-irreducible .ensures) ∙ c .before .before .before .before .before .if1 .left)) in
-    let r = says-reducible (judgement g fullSets ws .reply) t in
+    let r = says-reducible _ (judgement g fullSets ws .reply) _ j (c .before .before .before .before .before .before .is-irreducible .ensures) (c .before .before .before .before .before .if1 .left) in
     let o = rw (c .before .before .before .before .end-marks .ensures .0, c .before .before .before .before .end-marks .ensures .1) at (c .before .before .before .first-open .ensures) in
     let w = sym o ∙ c .before .enum-told .given .1 in
-    (sym (no-room g ws (a .out .now) t w (c .if2 .taken)), sym (no-room-out g ws (a .out .now) t w (c .if2 .taken)))
+    (sym (no-room g ws (a .out .now) r w (c .if2 .taken)), sym (no-room-out g ws (a .out .now) r w (c .if2 .taken)))
 
 write-order-requires : tie.Need-write-order-requires
 unfolding fullSets
@@ -93,8 +88,7 @@ write-order-requires c κs =
     let g = a .guards .now in
     let ws = a .words .now in
     let j = c .before .before .before .before .before .before .before .before .judge-recording .ensures .0 in
-    let t = turned-false _ (rw j at (sym (c .before .before .before .before .before .before .before .is-irreducible .ensures) ∙ c .before .before .before .before .before .before .if1 .left)) in
-    let r = says-reducible (judgement g fullSets ws .reply) t in
+    let r = says-reducible _ (judgement g fullSets ws .reply) _ j (c .before .before .before .before .before .before .before .is-irreducible .ensures) (c .before .before .before .before .before .before .if1 .left) in
     let o = rw (c .before .before .before .before .before .end-marks .ensures .0, c .before .before .before .before .before .end-marks .ensures .1) at (c .before .before .before .before .first-open .ensures) in
     let w = sym o ∙ c .before .before .enum-told .given .1 in
     let d = closed-open g ws r w in
@@ -110,12 +104,11 @@ returns-4 c =
     let g = a .guards .now in
     let ws = a .words .now in
     let j = c .before .before .before .before .before .before .before .before .before .before .before .judge-recording .ensures .0 in
-    let t = turned-false _ (rw j at (sym (c .before .before .before .before .before .before .before .before .before .before .is-irreducible .ensures) ∙ c .before .before .before .before .before .before .before .before .before .if1 .left)) in
-    let r = says-reducible (judgement g fullSets ws .reply) t in
+    let r = says-reducible _ (judgement g fullSets ws .reply) _ j (c .before .before .before .before .before .before .before .before .before .before .is-irreducible .ensures) (c .before .before .before .before .before .before .before .before .before .if1 .left) in
     let o = rw (c .before .before .before .before .before .before .before .before .end-marks .ensures .0, c .before .before .before .before .before .before .before .before .end-marks .ensures .1) at (c .before .before .before .before .before .before .before .first-open .ensures) in
     let w = sym o ∙ c .before .before .before .before .before .enum-told .given .1 in
     let d = closed-open g ws r w in
-    (sym (is-written g ws (a .out .now) t w (c .before .before .before .before .if2 .left)), rw (walk-is-order g ws (c .before .before .before .before .before .before .before .before .before .before .before .before .before .before .before .pre) r d, order-length g ws (c .before .before .before .before .before .before .before .before .before .before .before .before .before .before .before .pre) r d) at (c .before .before .write-order .ensures) ∙ sym (is-written-out g ws (a .out .now) t w (c .before .before .before .before .if2 .left)))
+    (sym (is-written g ws (a .out .now) r w (c .before .before .before .before .if2 .left)), rw (walk-is-order g ws (c .before .before .before .before .before .before .before .before .before .before .before .before .before .before .before .pre) r d, order-length g ws (c .before .before .before .before .before .before .before .before .before .before .before .before .before .before .before .pre) r d) at (c .before .before .write-order .ensures) ∙ sym (is-written-out g ws (a .out .now) r w (c .before .before .before .before .if2 .left)))
 
 pub order-spec : {M : Type 1} → statement M
 order-spec =

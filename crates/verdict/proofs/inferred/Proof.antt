@@ -1,5 +1,4 @@
 use mathlib.Core.Path.{sym, _∙_}
-use borrow.Author.Needs.{needs}
 use lib.ListN.{length}
 use Rattle.pass.proofs.Judgement.{judgement-length}
 use Rattle.pass.specs.Pass.{fullSets}
