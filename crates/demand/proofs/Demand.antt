@@ -6,11 +6,11 @@ use mathlib.Core.Bool.{Bool, true, false, cond}
 use mathlib.Core.List.{List, [], _∷_, _++_, map}
 use native.Mathlib.Omega.{arith}
 use native.Mathlib.Numerals.{add-one}
-use borrow.Author.Tests.{eqb-true, eqb-false, ltb-true, ltb-false}
+use borrow.Author.Tests.{eqb-true, ltb-true, ltb-false}
 use lib.Dec.{eqb, ltb}
 use lib.ListN.{length, getD, drop, List·getD-eq-default}
 use lib.Seq.{getD-drop}
-use Rattle.frame.proofs.Shared.{never}
+use Rattle.frame.proofs.Shared.{never, either, from-here}
 use Rattle.frame.specs.Frame.{decodeWord, encodeFrame}
 use Rattle.frame.specs.declared.Thread.{Thread}
 use Rattle.frame.specs.declared.Variable.{Variable}
@@ -167,16 +167,12 @@ drop-decode zero l a = a
 drop-decode (suc b) [] a = tt
 drop-decode (suc b) (w ∷ l) a = drop-decode b l (a .1)
 
-cond-decode : (b : Bool) (l r : List ℕ) → AllDecode l → AllDecode r → AllDecode (cond b l r)
-cond-decode true l r p q = p
-cond-decode false l r p q = q
-
 at-decode : (c : ℕ) (ks xs : List ℕ) → AllDecode xs → AllDecode (unitAt c ks xs)
 unfolding unitAt
 at-decode c [] xs a = tt
 at-decode c (k ∷ ks) [] a = tt
 at-decode c (k ∷ ks) (x ∷ xs) a =
-    cond-decode (eqb k c) (x ∷ unitAt c ks xs) (unitAt c ks xs) (a .0, at-decode c ks xs (a .1)) (at-decode c ks xs (a .1))
+    either AllDecode (eqb k c) {x = x ∷ unitAt c ks xs} {y = unitAt c ks xs} (a .0, at-decode c ks xs (a .1)) (at-decode c ks xs (a .1))
 
 from-decode : (n c : ℕ) (ks xs : List ℕ) → AllDecode xs → AllDecode (unitsFrom n c ks xs)
 unfolding unitsFrom
@@ -190,7 +186,7 @@ unit-decode t d (w ∷ ws) a = go (ownFrame (decodeWord w) t d) (λ e. unit-deco
   where
     go : (o : Own) → ((e : ℕ) → AllDecode (unitFrom t e ws)) → AllDecode (onOwn o w d (λ e. unitFrom t e ws))
     go own.Other ih = ih d
-    go (own.Mine e) ih = (a .0, cond-decode (eqb e 0) [] (unitFrom t e ws) tt (ih e))
+    go (own.Mine e) ih = (a .0, either AllDecode (eqb e 0) {x = []} {y = unitFrom t e ws} tt (ih e))
 
 in-decode : (m : Mark) (all : List ℕ) (t : Thread) → AllDecode all → AllDecode (unitIn m all t)
 unfolding unitOf
@@ -261,9 +257,7 @@ none-open (suc n) k m depths begins e =
     let ih = none-open n (k + 1) (earlier m (openBegin (getD depths k 0) (getD begins k 0))) depths begins e in
     let q = earlier-absent m (openBegin (getD depths k 0) (getD begins k 0)) (ih .0) in (
       q .0,
-      λ u p l. by-test (eqb u k)
-          (λ y. ap (λ (x : ℕ). getD depths x 0) (eqb-true _ _ y) ∙ open-absent (getD depths k 0) (getD begins k 0) (q .1))
-          (λ y. ih .1 u (omega (arith, eqb-false u k y)) (omega arith)),
+      from-here (λ u. getD depths u 0 ≡ 0) k (k + suc n) (open-absent (getD depths k 0) (getD begins k 0) (q .1)) (λ u p l. ih .1 u p (omega arith)),
     )
 
 open-none : (n k : ℕ) (depths begins : List ℕ) → ((u : ℕ) → getD depths u 0 ≡ 0) → firstOpenFrom n k Absent depths begins ≡ Absent

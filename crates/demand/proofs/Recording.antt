@@ -3,14 +3,14 @@
 use Prim.Native.Nat.{ℕ, zero, suc, pred, _+_, _-_}
 use mathlib.Core.Path.{_≡_, refl, sym, ap, _∙_, subst}
 use mathlib.Core.Bool.{Bool, true, false, cond, not, _&&_, _||_}
-use mathlib.Core.List.{List, [], _∷_, _++_}
+use mathlib.Core.List.{List, [], _∷_, _++_, map-append}
 use native.Mathlib.Omega.{arith}
 use native.Mathlib.Numerals.{add-one}
 use borrow.Author.Tests.{eqb-true, eqb-false, ne-eqb}
 use lib.Dec.{eqb}
-use lib.ListN.{length, getD, drop, replicate, length-map}
+use lib.ListN.{length, getD, drop, length-map}
 use lib.Seq.{drop-drop}
-use Rattle.frame.proofs.Shared.{never}
+use Rattle.frame.proofs.Shared.{never, getD-filled}
 use Rattle.frame.proofs.Laws.{decoded-in-range}
 use Rattle.frame.specs.Frame.{decodeWord}
 use Rattle.frame.specs.declared.Thread.{Thread}
@@ -66,18 +66,13 @@ pass-made guards i s j (w ∷ ws) e z =
     (subst (λ (x : ℕ). judgeFrom guards x (stepFrame (g .frame) s .state) (judgeFrame guards i (g .frame) s j .judging) ws .reply ≡ reducible) (add-one i) r) (o .long))
 
 -- the start
-none-at : (n u : ℕ) → _≡_ {A = ℕ} (getD (replicate n 0) u 0) 0
-none-at zero u = refl
-none-at (suc n) zero = refl
-none-at (suc n) (suc u) = none-at n u
-
 pub start-long : Long start (startJudging fullSets)
 unfolding start startJudging
 start-long = record { owners-long = refl; depths-long = refl; begins-long = refl; commits-long = refl }
 
 pub start-view : viewOf start (startJudging fullSets) ≡ begin
 unfolding start startJudging
-start-view = run-equal (λ m. none-at 64 m) (λ t. none-at 32 t) (λ t. rw (none-at 32 t))
+start-view = run-equal (λ m. getD-filled 64 m 0) (λ t. getD-filled 32 t 0) (λ t. rw (getD-filled 32 t 0))
 
 -- the phases
 settled-view : (s : State) (j : Judging) (t : ℕ)
@@ -124,15 +119,11 @@ units-at c (x ∷ k) (w ∷ xs) e = go (eqb (x .key) c) (units-at c k xs (cc))
     go true ih = ap (λ (y : Frame). y ∷ framesOf (unitAt c (keys k) xs)) h ∙ ap (λ (y : List Frame). x .frame ∷ y) ih
     go false ih = ih
 
-frames-both : (l r : List ℕ) → framesOf (l ++ r) ≡ framesOf l ++ framesOf r
-frames-both [] r = refl
-frames-both (w ∷ l) r = ap (λ (x : List Frame). frameOf w ∷ x) (frames-both l r)
-
 units-from : (m c : ℕ) (k : List (Keyed Frame)) (xs : List ℕ) → framesOf xs ≡ frames k → framesOf (unitsFrom m c (keys k) xs) ≡ frames (buckets m c k)
 unfolding unitsFrom
 units-from zero c k xs e = refl
 units-from (suc m) c k xs e =
-    rw (add-one c, frames-both (unitAt c (keys k) xs) (unitsFrom m (suc c) (keys k) xs), frames-append (bucket c k) (buckets m (suc c) k))
+    rw (add-one c, map-append frameOf (unitAt c (keys k) xs) (unitsFrom m (suc c) (keys k) xs), frames-append (bucket c k) (buckets m (suc c) k))
     (rw (units-at c k xs e, units-from m (suc c) k xs e))
 
 module _ (guards : List ℕ) where
@@ -283,7 +274,7 @@ module _ (guards : List ℕ) where
   pass-walk all q end e h = refl
   pass-walk all q (on {i = i} {s = s} {j = j} {w = w} {ws = ws} {f = f} {n = n} {k = k} d g a o rest) e h =
       rw (d, g, a, add-one i)
-      (frames-both (unitIn (unitStart (phaseOf m b c) (settled (phaseOf (getD (n .depths) t 0) (getD (k .begins) t 0) (getD (k .commits) t 0))) i) all (f .thread))
+      (map-append frameOf (unitIn (unitStart (phaseOf m b c) (settled (phaseOf (getD (n .depths) t 0) (getD (k .begins) t 0) (getD (k .commits) t 0))) i) all (f .thread))
       (walkFrom guards all (suc i) (point n k) ws)
       ∙ (ap (λ (x : List Frame). x ++ framesOf (walkFrom guards all (suc i) (point n k) ws)) here
       ∙ ap (λ (x : List Frame). emitted guards (viewOf s j) q i f (framesOf ws) ++ x)

@@ -5,10 +5,10 @@ use mathlib.Core.Path.{_≡_, refl, sym, ap, _∙_, subst}
 use mathlib.Core.Bool.{Bool, true, false, cond, false≢true}
 use mathlib.Core.List.{List, [], _∷_}
 use native.Mathlib.Omega.{arith}
-use borrow.Author.Tests.{ltb-true, ltb-false, eqb-true, eqb-false, eq-eqb, ne-eqb}
+use borrow.Author.Tests.{ltb-true, ltb-false, eqb-true, eq-eqb, ne-eqb}
 use lib.Dec.{ltb, eqb}
-use lib.ListN.{length}
-use Rattle.frame.proofs.Shared.{never}
+use lib.ListN.{length, length-map}
+use Rattle.frame.proofs.Shared.{never, from-here}
 use Rattle.frame.proofs.Laws.{decode-encode}
 use Rattle.frame.specs.Frame.{decodeWord, encodeFrame, InRange}
 use Rattle.frame.specs.declared.Frame.{Frame}
@@ -66,13 +66,12 @@ same-agree (x ∷ xs) = rw (eq-eqb (encodeFrame (x .what)) (encodeFrame (x .what
 from-each : (k t : ℕ) (l r : List ℕ) → sameFrom k t l r ≡ true → (u : ℕ) → t ≤ u → u < t + k → sameThread u l r ≡ true
 unfolding sameFrom
 from-each zero t l r e u a b = absurd (omega arith)
-from-each (suc k) t l r e u a b = go (sameThread t l r) (eqb u t) refl refl e (λ h. from-each k (t + 1) l r h u)
+from-each (suc k) t l r e u a b = go (sameThread t l r) refl e (from-each k (t + 1) l r)
   where
-    go : (x y : Bool) → sameThread t l r ≡ x → eqb u t ≡ y → cond x (sameFrom k (t + 1) l r) false ≡ true
-        → (sameFrom k (t + 1) l r ≡ true → t + 1 ≤ u → u < t + 1 + k → sameThread u l r ≡ true) → sameThread u l r ≡ true
-    go false y p q h rest = absurd (false≢true h)
-    go true true p q h rest = rw (eqb-true u t q) p
-    go true false p q h rest = rest h (omega (arith, eqb-false u t q)) (omega arith)
+    go : (x : Bool) → sameThread t l r ≡ x → cond x (sameFrom k (t + 1) l r) false ≡ true
+        → (sameFrom k (t + 1) l r ≡ true → (v : ℕ) → t + 1 ≤ v → v < t + 1 + k → sameThread v l r ≡ true) → sameThread u l r ≡ true
+    go false p h rest = absurd (false≢true h)
+    go true p h rest = from-here (λ v. sameThread v l r ≡ true) t (t + suc k) p (λ v c d. rest h v c (omega arith)) u a b
 
 each-from : (k t : ℕ) (l r : List ℕ) → ((u : ℕ) → sameThread u l r ≡ true) → sameFrom k t l r ≡ true
 unfolding sameFrom
@@ -89,13 +88,9 @@ own-none u κ (w ∷ ws) d h =
 clashing-sym : (f g : Frame) → clashing f g ≡ clashing g f
 clashing-sym f g = clash-sym (f .action) (g .action)
 
-frames-length : (ws : List ℕ) → length (framesOf ws) ≡ length ws
-frames-length [] = refl
-frames-length (w ∷ ws) = ap suc (frames-length ws)
-
 -- exchanges keep the number of words
 pub exchanged-length : (l r : List ℕ) → Exchanges independent (framesOf l) (framesOf r) → length l ≡ length r
-exchanged-length l r x = sym (frames-length l) ∙ (exchanges-length independent x ∙ frames-length r)
+exchanged-length l r x = sym (length-map l frameOf) ∙ (exchanges-length independent x ∙ length-map r frameOf)
 
 module _ (l r : List ℕ) (dl : AllDecode l) (dr : AllDecode r) where
   threads-same : sameFrom 32 0 l r ≡ true → (u : ℕ) → ownFrames u none (framesOf l) ≡ ownFrames u none (framesOf r)

@@ -1,6 +1,6 @@
 -- Laws of the walks, one for each way that a turn of a loop can go: passing frames of other threads, walking both recordings, marking
 -- threads, and going through the threads.
-use Prim.Native.Nat.{ℕ, zero, suc, _+_, _≤_, _<_}
+use Prim.Native.Nat.{ℕ, suc, _+_, _≤_, _<_}
 use mathlib.Core.Path.{_≡_, refl, sym, ap, _∙_, subst, fun-ext}
 use mathlib.Core.Bool.{Bool, true, false, cond, true≢false}
 use mathlib.Core.List.{List, [], _∷_}
@@ -11,6 +11,7 @@ use borrow.Author.Tests.{eqb-true, eqb-false, eq-eqb, ne-eqb}
 use lib.Dec.{eqb}
 use lib.ListN.{length, getD, set, drop, replicate, length-set, drop-of-length-le}
 use lib.Seq.{getD-set-same, getD-set-other, drop-cons}
+use Rattle.frame.proofs.Shared.{getD-filled}
 use Rattle.frame.proofs.Laws.{decoded-in-range}
 use Rattle.frame.specs.Frame.{decodeWord, encodeFrame}
 use Rattle.frame.specs.declared.Action.{Action}
@@ -77,25 +78,20 @@ pub record Walking (t : ℕ) (l r : List ℕ) (i : ℕ) (c : Counters) (j : ℕ)
   pub right : Counted d j
   pub same : sameThread t l r ≡ agree (ownFrames t (view c) (framesOf (drop i l))) (ownFrames t (view d) (framesOf (drop j r)))
 
-zeros : (n i : ℕ) → _≡_ {A = ℕ} (getD (replicate n 0) i 0) 0
-zeros zero i = refl
-zeros (suc n) zero = refl
-zeros (suc n) (suc i) = zeros n i
-
 abbrev empty : Counters
 empty = countersOf (replicate 64 0) (replicate 1024 0)
 
 none-counted : Counted empty 0
 none-counted = record {
-  locks = record { long = refl; most = λ k. omega (arith, zeros 64 k) };
-  variables = record { long = refl; most = λ k. omega (arith, zeros 1024 k) };
+  locks = record { long = refl; most = λ k. omega (arith, getD-filled 64 k 0) };
+  variables = record { long = refl; most = λ k. omega (arith, getD-filled 1024 k 0) };
 }
 
 none-seen : (a : Action) → seenIn a empty ≡ 0
-none-seen (Acquire m) = zeros 64 (m .0)
-none-seen (Release m) = zeros 64 (m .0)
-none-seen (Read x) = zeros 1024 (x .0)
-none-seen (Write x) = zeros 1024 (x .0)
+none-seen (Acquire m) = getD-filled 64 (m .0) 0
+none-seen (Release m) = getD-filled 64 (m .0) 0
+none-seen (Read x) = getD-filled 1024 (x .0) 0
+none-seen (Write x) = getD-filled 1024 (x .0) 0
 none-seen Begin = refl
 none-seen End = refl
 

@@ -7,11 +7,11 @@ use mathlib.Core.Bool.{Bool, true, false, cond}
 use mathlib.Core.List.{List, [], _∷_}
 use native.Mathlib.Omega.{arith}
 use native.Mathlib.Nat.{not-suc-le-zero}
-use lib.ListN.{length, getD, set, replicate, length-set, length-replicate, getD-replicate, List·getD-eq-default}
+use lib.ListN.{length, getD, set, replicate, length-set, length-replicate, getD-replicate}
 use lib.Seq.{getD-set-same, getD-set-other, set-out, ext-getD}
 use lib.Dec.{ltb, leb, eqb}
 use borrow.Author.Tests.{lt-ltb, le-ltb, le-leb, lt-leb, ltb-true, ltb-false, leb-true, eqb-true, eqb-false, eq-eqb, ne-eqb}
-use Rattle.frame.proofs.Shared.{never}
+use Rattle.frame.proofs.Shared.{never, from-here, getD-filled}
 use Rattle.frame.specs.declared.Lock.{Lock}
 use Rattle.frame.specs.declared.Variable.{Variable}
 use Rattle.frame.specs.declared.Refused.{Refused}
@@ -134,11 +134,7 @@ run-codes (stop r h) x a = a
 run-codes {g = g} (go-on w e t m) x a = run-codes m x (set-code g (guardVariable w) (guardLock w) x (t .lock) a)
 
 unnamed-code : (x : ℕ) → getD noGuards x 64 ≡ 64
-unnamed-code x = go (ltb x 1024) refl
-  where
-    go : (t : Bool) → ltb x 1024 ≡ t → getD noGuards x 64 ≡ 64
-    go true q = getD-replicate 1024 x 64 64 (ltb-true x 1024 q)
-    go false q = List·getD-eq-default noGuards 64 {n = x} (rw (length-replicate {A = ℕ} 1024 64) (ltb-false x 1024 q))
+unnamed-code x = getD-filled 1024 x 64
 
 pub table-codes : (s : List ℕ) (x : ℕ) → getD (guardsRead s .table) x 64 ≤ 64
 table-codes s x = run-codes (whole s) x (omega (arith, unnamed-code x))
@@ -221,14 +217,6 @@ module _ (s : List ℕ) (n : ℕ) where
   run-after (stop r h) e = never (cc)
   run-after (go-on w q t m) e = omega (arith, run-after m e)
 
-  -- what holds of line i and of each line from i + 1 on holds of each line from i on
-  line-cases : (P : ℕ → Type 0) (i : ℕ) → P i → ((j : ℕ) → i + 1 ≤ j → j < n → P j) → (j : ℕ) → i ≤ j → j < n → P j
-  line-cases P i p f j a b = go (eqb i j) refl
-    where
-      go : (t : Bool) → eqb i j ≡ t → P j
-      go true q = rw (← eqb-true i j q) p
-      go false q = f j (omega (arith, eqb-false i j q)) b
-
   -- the code of a named variable stays
   run-keeps : {k i : ℕ} {g : List ℕ} {r : GuardsRead} → Run s k i g r → (x : ℕ) → (getD g x 64 ≡ 64 → ⊥) → getD (r .table) x 64 ≡ getD g x 64
   run-keeps (end h) x f = refl
@@ -250,7 +238,7 @@ module _ (s : List ℕ) (n : ℕ) where
   run-named {i = i} {g} {r} (go-on w q t m) e j a b =
       let o = set-lock g w t in
       let here : getD (r .table) (guardVariable w) 64 ≡ guardLock w = run-keeps m (guardVariable w) (rw o (λ z. omega (arith, t .lock))) ∙ o in
-      line-cases (λ j. getD (r .table) (guardVariable (wordAt s j)) 64 ≡ guardLock (wordAt s j)) i (rw (word-of i w q) here) (λ l c d. run-named m e l c d) j a b
+      from-here (λ j. getD (r .table) (guardVariable (wordAt s j)) 64 ≡ guardLock (wordAt s j)) i n (rw (word-of i w q) here) (λ l c d. run-named m e l c d) j a b
 
   run-unnamed : {k i : ℕ} {g : List ℕ} {r : GuardsRead} → Run s k i g r → r .reply ≡ reply.Lines n
       → (x : ℕ) → ((j : ℕ) → i ≤ j → j < n → guardVariable (wordAt s j) ≡ x → ⊥) → getD (r .table) x 64 ≡ getD g x 64
@@ -267,7 +255,7 @@ module _ (s : List ℕ) (n : ℕ) where
   run-range over e j a b = never (cc)
   run-range (stop r h) e j a b = never (cc)
   run-range {i = i} (go-on w q t m) e j a b =
-      line-cases (λ j. (guardVariable (wordAt s j) ≤ 1023) × (guardLock (wordAt s j) ≤ 63)) i (rw (word-of i w q) (t .variable, t .lock)) (λ l c d. run-range m e l c d) j a b
+      from-here (λ j. (guardVariable (wordAt s j) ≤ 1023) × (guardLock (wordAt s j) ≤ 63)) i n (rw (word-of i w q) (t .variable, t .lock)) (λ l c d. run-range m e l c d) j a b
 
   other : (g : List ℕ) (w : ℕ) → Taken g w → (x : ℕ) → getD (set g (guardVariable w) (guardLock w)) x 64 ≡ 64 → x ≡ guardVariable w → ⊥
   other g w t x f z = let o : guardLock w ≡ 64 = sym (set-lock g w t) ∙ (rw z at f) in omega (arith, t .lock)
@@ -283,7 +271,7 @@ module _ (s : List ℕ) (n : ℕ) where
   run-fresh over e j a b = never (cc)
   run-fresh (stop r h) e j a b = never (cc)
   run-fresh {i = i} {g} (go-on w q t m) e j a b =
-      line-cases (λ j. getD g (guardVariable (wordAt s j)) 64 ≡ 64) i
+      from-here (λ j. getD g (guardVariable (wordAt s j)) 64 ≡ 64) i n
       (rw (word-of i w q) (default-code g (guardVariable w) (t .unnamed)))
       (λ l c d. back g w t (guardVariable (wordAt s l)) (run-fresh m e l c d))
       j
@@ -296,7 +284,7 @@ module _ (s : List ℕ) (n : ℕ) where
   run-distinct over e j a b = never (cc)
   run-distinct (stop r h) e j a b = never (cc)
   run-distinct {i = i} {g} (go-on w q t m) e j a b =
-      line-cases (λ j. (l : ℕ) → j < l → l < n → guardVariable (wordAt s l) ≡ guardVariable (wordAt s j) → ⊥) i
+      from-here (λ j. (l : ℕ) → j < l → l < n → guardVariable (wordAt s l) ≡ guardVariable (wordAt s j) → ⊥) i n
       (λ l c d z. other g w t (guardVariable (wordAt s l)) (run-fresh m e l (omega arith) d) (rw (word-of i w q) at z))
       (λ x c d. run-distinct m e x c d)
       j

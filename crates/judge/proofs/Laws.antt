@@ -10,7 +10,7 @@ use mathlib.Core.List.{List}
 use lib.ListN.{getD, set}
 use lib.Bits.{bitAnd}
 use lib.Pow.{shl-exact}
-use Rattle.frame.proofs.Shared.{never}
+use Rattle.frame.proofs.Shared.{never, either}
 use Rattle.frame.specs.declared.Thread.{Thread}
 use Rattle.reply.specs.declared.Kind.{Kind}
 use Rattle.reply.specs.declared.Mark.the-variants.{At, Absent}
@@ -90,10 +90,6 @@ keeps-go j n v k e =
 keeps-wrong : (j : Judging) (w : Verdict) → Keeps j (judged w j)
 keeps-wrong j w v k e = sym (ap (λ (x : Judged). x .judging) e)
 
-keeps-cond : (j : Judging) (b : Bool) (x y : Judged) → Keeps j x → Keeps j y → Keeps j (cond b x y)
-keeps-cond j true x y p q = p
-keeps-cond j false x y p q = q
-
 keeps-acquire : (p : Phase) (i : ℕ) (t : Thread) (l : Lock) (j : Judging) → Keeps j (acquireIn p i t l j)
 keeps-acquire outside i t l j = keeps-go j j
 keeps-acquire (before b) i t l j = keeps-go j j
@@ -109,13 +105,13 @@ unfolding judgeOperation
 wrong-keeps i t d h (Acquire l) j = keeps-acquire (phaseAt d t j) i t l j
 wrong-keeps i t d h (Release l) j = keeps-go j (withCommit t (committed d (getD (j .commits) (t .0) 0) i) j)
 wrong-keeps i t d h (Protected m) j =
-    keeps-cond j (contains h m) _ _ (keeps-go j j) (keeps-wrong j (violation kind.GuardNotHeld i t (phaseAt d t j) (2 ^ (m .0))))
+    either (Keeps j) (contains h m) (keeps-go j j) (keeps-wrong j (violation kind.GuardNotHeld i t (phaseAt d t j) (2 ^ (m .0))))
 wrong-keeps i t d h Unprotected j = keeps-unprotected (phaseAt d t j) i t (withCommit t (committed d (getD (j .commits) (t .0) 0) i) j) j
 wrong-keeps i t d h (Inferred v) j =
-    keeps-cond j (eqb (bitAnd (getD (j .sets) (v .0) 0) h) 0) _ _ (keeps-wrong j (violation kind.SetEmptied i t (phaseAt d t j) (getD (j .sets) (v .0) 0)))
+    either (Keeps j) (eqb (bitAnd (getD (j .sets) (v .0) 0) h) 0) (keeps-wrong j (violation kind.SetEmptied i t (phaseAt d t j) (getD (j .sets) (v .0) 0)))
     (keeps-go j (judgingOf (j .begins) (j .commits) (set (j .sets) (v .0) (bitAnd (getD (j .sets) (v .0) 0) h))))
 wrong-keeps i t d h Begin j =
-    keeps-cond j (eqb d 0) _ _ (keeps-go j (judgingOf (set (j .begins) (t .0) i) (set (j .commits) (t .0) 0) (j .sets))) (keeps-go j j)
+    either (Keeps j) (eqb d 0) (keeps-go j (judgingOf (set (j .begins) (t .0) i) (set (j .commits) (t .0) 0) (j .sets))) (keeps-go j j)
 wrong-keeps i t d h End j = keeps-go j j
 
 -- an access holds and frees nothing, whatever its guard

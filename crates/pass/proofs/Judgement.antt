@@ -1,12 +1,11 @@
 -- Laws of the judgement: it keeps the length of the table of candidate sets, and a recording that gets a verdict is sound.
 use Prim.Native.Nat.{ℕ, _+_, _≤_}
 use mathlib.Core.Path.{_≡_, refl, _∙_}
-use mathlib.Core.Bool.{Bool, true, false, cond}
 use mathlib.Core.List.{List, [], _∷_}
 use lib.Dec.{eqb}
 use lib.Bits.{bitAnd}
 use lib.ListN.{length, getD, length-set}
-use Rattle.frame.proofs.Shared.{never}
+use Rattle.frame.proofs.Shared.{never, either}
 use Rattle.frame.specs.Frame.{decodeWord}
 use Rattle.frame.specs.declared.Thread.{Thread}
 use Rattle.frame.specs.declared.Lock.{Lock}
@@ -26,28 +25,28 @@ use Rattle.judge.specs.declared.Operation.{Operation}
 use Rattle.judge.specs.declared.Operation.the-variants.{Acquire, Release, Protected, Unprotected, Inferred, Begin, End}
 use Rattle.pass.specs.Pass.{Ended, judgeFrame, onOutcome, onVerdict, judgeFrom, startJudging, onCheck, judgement}
 
-cond-length : (b : Bool) (x y : Judged) (n : ℕ) → length (x .judging .sets) ≡ n → length (y .judging .sets) ≡ n → length (cond b x y .judging .sets) ≡ n
-cond-length true x y n p q = p
-cond-length false x y n p q = q
+-- what is judged has as many sets as before
+abbrev AsMany : Judging → Judged → Type 0
+AsMany j x = length (x .judging .sets) ≡ length (j .sets)
 
-acquire-length : (p : Phase) (i : ℕ) (t : Thread) (l : Lock) (j : Judging) → length (acquireIn p i t l j .judging .sets) ≡ length (j .sets)
+acquire-length : (p : Phase) (i : ℕ) (t : Thread) (l : Lock) (j : Judging) → AsMany j (acquireIn p i t l j)
 acquire-length outside i t l j = refl
 acquire-length (before b) i t l j = refl
 acquire-length (after b c) i t l j = refl
 
-unprotected-length : (p : Phase) (i : ℕ) (t : Thread) (n j : Judging) → length (n .sets) ≡ length (j .sets) → length (unprotectedIn p i t n j .judging .sets) ≡ length (j .sets)
+unprotected-length : (p : Phase) (i : ℕ) (t : Thread) (n j : Judging) → length (n .sets) ≡ length (j .sets) → AsMany j (unprotectedIn p i t n j)
 unprotected-length outside i t n j e = e
 unprotected-length (before b) i t n j e = e
 unprotected-length (after b c) i t n j e = refl
 
-operation-length : (i : ℕ) (t : Thread) (d h : ℕ) (o : Operation) (j : Judging) → length (judgeOperation i t d h o j .judging .sets) ≡ length (j .sets)
+operation-length : (i : ℕ) (t : Thread) (d h : ℕ) (o : Operation) (j : Judging) → AsMany j (judgeOperation i t d h o j)
 unfolding judgeOperation
 operation-length i t d h (Acquire l) j = acquire-length (phaseAt d t j) i t l j
 operation-length i t d h (Release l) j = refl
-operation-length i t d h (Protected m) j = cond-length (contains h m) _ _ (length (j .sets)) refl refl
+operation-length i t d h (Protected m) j = either (AsMany j) (contains h m) refl refl
 operation-length i t d h Unprotected j = unprotected-length (phaseAt d t j) i t (withCommit t (committed d (getD (j .commits) (t .0) 0) i) j) j refl
-operation-length i t d h (Inferred v) j = cond-length (eqb (bitAnd (getD (j .sets) (v .0) 0) h) 0) _ _ (length (j .sets)) refl (length-set (j .sets) _ _)
-operation-length i t d h Begin j = cond-length (eqb d 0) _ _ (length (j .sets)) refl refl
+operation-length i t d h (Inferred v) j = either (AsMany j) (eqb (bitAnd (getD (j .sets) (v .0) 0) h) 0) refl (length-set (j .sets) _ _)
+operation-length i t d h Begin j = either (AsMany j) (eqb d 0) refl refl
 operation-length i t d h End j = refl
 
 onward : (v : Verdict) (c : List ℕ) (e : Ended) (n : ℕ) → length c ≡ n → length (e .sets) ≡ n → length (onVerdict v c e .sets) ≡ n

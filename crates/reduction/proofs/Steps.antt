@@ -8,6 +8,7 @@ use mathlib.Core.List.{List, [], _∷_}
 use native.Mathlib.Omega.{arith}
 use lib.Dec.{eqb, leb}
 use borrow.Author.Tests.{eqb-true, eqb-false, eq-eqb, ne-eqb}
+use Rattle.frame.proofs.Shared.{either}
 use Rattle.frame.specs.declared.Frame.{Frame}
 use Rattle.judge.specs.declared.Operation.{Operation}
 use Rattle.judge.specs.declared.Operation.the-variants.{Acquire, Release, Protected, Unprotected, Inferred, Begin, End}
@@ -36,23 +37,15 @@ put-cases P f k v i p q = go (eqb i k) refl
     go true e = p (eqb-true i k e)
     go false e = q (eqb-false i k e)
 
-below-cond : (b : Bool) (n x : ℕ) → n ≤ x → n ≤ cond b n x
-below-cond true n x h = omega arith
-below-cond false n x h = h
-
-cond-elim : (P : ℕ → Type 0) (b : Bool) {x y : ℕ} → P x → P y → P (cond b x y)
-cond-elim P true p q = p
-cond-elim P false p q = q
-
 -- A thread's commit after a step is the one before, none, or this place.
 pub mark-elim : (P : ℕ → Type 0) (d c n : ℕ) (k : Operation) → P c → P (suc n) → P 0 → P (mark d c n k)
 mark-elim P d c n (Acquire m) p q r = p
-mark-elim P d c n (Release m) p q r = cond-elim P (eqb d 0) p (cond-elim P (eqb c 0) q p)
+mark-elim P d c n (Release m) p q r = either P (eqb d 0) p (either P (eqb c 0) q p)
 mark-elim P d c n (Protected m) p q r = p
-mark-elim P d c n Unprotected p q r = cond-elim P (eqb d 0) p (cond-elim P (eqb c 0) q p)
+mark-elim P d c n Unprotected p q r = either P (eqb d 0) p (either P (eqb c 0) q p)
 mark-elim P d c n (Inferred v) p q r = p
 mark-elim P d c n Begin p q r = p
-mark-elim P d c n End p q r = cond-elim P (leb d 1) r p
+mark-elim P d c n End p q r = either P (leb d 1) r p
 
 -- An operation that does not commit the block it stands in.
 abbrev pub Quiet : Operation → Type 0
@@ -85,7 +78,8 @@ module _ (guards : List ℕ) where
   pub commitPlace-le : (t : ℕ) (s : Run) (n : ℕ) (l : List Frame) → n ≤ commitPlace guards t s n l
   commitPlace-le t s n [] = omega arith
   commitPlace-le t s n (f ∷ l) =
-      below-cond (eqb (threadOf f) t && settled (onto guards s n f) t) n _ (omega (arith, commitPlace-le t (onto guards s n f) (suc n) l))
+      either (λ v. n ≤ v) (eqb (threadOf f) t && settled (onto guards s n f) t) {x = n} {y = commitPlace guards t (onto guards s n f) (suc n) l} (omega arith)
+      (omega (arith, commitPlace-le t (onto guards s n f) (suc n) l))
 
   pub fresh-next : (N : ℕ) (s : Run) (n u : ℕ) (f : Frame) → N ≤ n → Fresh N (s .committed u) → Fresh N (onto guards s n f .committed u)
   fresh-next N s n u f h p =

@@ -7,6 +7,7 @@ use native.Mathlib.Nat.{pow-succ', div-one, div-div-eq-div-mul}
 use native.Mathlib.Decide.{ℕ-discrete}
 use borrow.Author.Tests.{eq-eqb, eqb-true}
 use lib.Bits.{bitAnd, and-step, and-shr}
+use lib.Pow.{pow-pos}
 use Rattle.frame.specs.declared.Lock.{Lock}
 use Rattle.judge.specs.Rules.{contains}
 
@@ -65,11 +66,7 @@ not-empty s l p e =
 -- 2 ^ k - 1 has all bits below k
 all-in : (k m : ℕ) → m < k → bit (2 ^ k - 1) m ≡ 1
 all-in zero m h = absurd (omega arith)
-all-in (suc k) zero h = bit-zero (2 ^ suc k - 1) ∙ omega (arith, pow-succ' 2 k, pos k)
-  where
-    pos : (n : ℕ) → 0 < 2 ^ n
-    pos zero = omega arith
-    pos (suc n) = omega (arith, pow-succ' 2 n, pos n)
+all-in (suc k) zero h = bit-zero (2 ^ suc k - 1) ∙ omega (arith, pow-succ' 2 k, pow-pos k)
 all-in (suc k) (suc m) h =
     bit-suc (2 ^ suc k - 1) m ∙ ap (λ (n : ℕ). bit n m) (omega (arith, pow-succ' 2 k)) ∙ all-in k m (omega arith)
 

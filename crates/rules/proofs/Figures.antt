@@ -1,6 +1,6 @@
 -- The verdict on a sound recording is that of the rules of the paper's figures. In this order: the rules as a function, so that a frame steps
 -- to one store or goes wrong by one kind; recordings by that function; the pass and the rules; the claim.
-use Prim.Native.Nat.{ℕ, zero, suc, _+_}
+use Prim.Native.Nat.{ℕ, suc, _+_}
 use mathlib.Core.Path.{_≡_, refl, sym, ap, _∙_, fun-ext}
 use mathlib.Core.Bool.{cond}
 use mathlib.Core.Logic.{_↔_}
@@ -9,7 +9,7 @@ use native.Mathlib.Omega.{arith}
 use native.Mathlib.Nat.{zero-add}
 use borrow.Author.Tests.{eq-eqb, ne-eqb}
 use lib.Dec.{eqb}
-use lib.ListN.{getD, replicate, length-replicate}
+use lib.ListN.{getD, length-replicate}
 use Rattle.frame.specs.Frame.{decodeWord}
 use Rattle.frame.proofs.Laws.{decoded-in-range}
 use Rattle.frame.specs.declared.Variable.{Variable}
@@ -32,7 +32,7 @@ use Rattle.reply.specs.declared.Violation.{Violation}
 use Rattle.judge.specs.Rules.{Judging}
 use Rattle.pass.specs.Pass.{Ended, allLocks, fullSets, judgeFrame, judgeFrom, startJudging, judgement}
 use Rattle.rules.specs.Figures.{Stage, Outside, PreCommit, PostCommit, Store, putStage, putLocks, owner, depth, shared, Accesses, reads, writes, Steps, ins-access-protected, ins-race-commit, ins-race-outside, ins-acquire, ins-release-commit, ins-release-outside, ins-enter, ins-nested-enter, ins-exit, ins-nested-exit, ins2-access, Wrong, wrong-access-protected, wrong-race-violate, wrong-acquire, wrong2-race, AllStep, end, step, WrongAt, here, later, startStore, guarding, VerdictIsOfTheRules}
-use Rattle.frame.proofs.Shared.{never}
+use Rattle.frame.proofs.Shared.{never, getD-filled}
 use Rattle.pass.proofs.Judgement.{judgement-pass}
 use Rattle.rules.proofs.Store.{storeOf, Sized, Told, goes, wrong, frame-told}
 
@@ -190,18 +190,13 @@ ends guards i s j (w ∷ ws) c z =
     told-case q ih (wrong {v = v} a p r) = some 0 v (rw (q .is, q .passes, a)) (omega arith) (here (q .is) r)
 
 -- the lists, the sizes and the store at the start
-none-at : (n u : ℕ) → _≡_ {A = ℕ} (getD (replicate n 0) u 0) 0
-none-at zero u = refl
-none-at (suc n) zero = refl
-none-at (suc n) (suc u) = none-at n u
-
 start-sized : Sized (start .depths) (startJudging fullSets)
 unfolding start startJudging fullSets
 start-sized = record { depths-long = refl; commits-long = refl; sets-long = length-replicate 1024 allLocks }
 
 start-store : storeOf (start .depths) (startJudging fullSets) ≡ startStore
 unfolding start startJudging
-start-store = ap (λ (g : ℕ → Stage). record { stage = g; locks = λ x. getD fullSets x 0 }) (fun-ext λ u. rw (none-at 32 u))
+start-store = ap (λ (g : ℕ → Stage). record { stage = g; locks = λ x. getD fullSets x 0 }) (fun-ext λ u. rw (getD-filled 32 u 0))
 
 -- a sound recording ends so from the start
 start-ends : (guards ws : List ℕ) → checkReply ws ≡ check.Sound → Ends guards 0 start (startJudging fullSets) ws

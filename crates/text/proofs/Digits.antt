@@ -87,7 +87,7 @@ digits-bound v [] r e = let q : v ≡ r = cc in omega arith
 digits-bound v (b ∷ bs) r e = rw (pow-succ' 16 (length bs)) (go (digits-bound (v * 16 + digitOf b) bs r) (ltb 15 (digitOf b)) refl)
   where
     go : (digitsValue (v * 16 + digitOf b) bs ≡ value r → r < (v * 16 + digitOf b + 1) * 16 ^ length bs) → (t : Bool) → ltb 15 (digitOf b) ≡ t → r < (v + 1) * (16 * 16 ^ length bs)
-    go ih true q = let f : _≡_ {A = Digits} none (value r) = rw q at e in let z : _≡_ {A = ℕ} 0 1 = cc in omega arith
+    go ih true q = let f : _≡_ {A = Digits} none (value r) = rw q at e in never (cc)
     go ih false q =
         let f : digitsValue (v * 16 + digitOf b) bs ≡ value r = rw q at e in
         bound-step v (digitOf b) (16 ^ length bs) r (ltb-false 15 (digitOf b) q) (ih f)

@@ -1,15 +1,15 @@
 -- Laws of the definitions of specs/Text: scanning a text line by line, the words written, and what an accepted text is like.
 use Prim.Native.Nat.{ℕ, zero, suc, _+_, _-_, _*_, _≤_, _<_}
-use mathlib.Core.Path.{_≡_, refl, sym, ap, _∙_}
+use mathlib.Core.Path.{_≡_, refl, ap, _∙_}
 use mathlib.Core.Bool.{Bool, true, false}
 use mathlib.Core.List.{List, [], _∷_, _++_}
 use native.Mathlib.Omega.{arith}
 use native.Mathlib.Numerals.{add-one}
 use lib.ListN.{length, getD, take, drop, set, length-append, take-append-drop, drop-of-length-le, List·getD-append}
-use lib.Seq.{drop-cons, drop-drop, set-at, append-snoc, take-at, getD-at}
+use lib.Seq.{drop-cons, drop-drop, take-at, getD-at}
 use lib.Dec.{ltb, leb, eqb}
 use borrow.Author.Tests.{le-ltb, ltb-false, le-leb, lt-leb, leb-true, eqb-true, eqb-false}
-use Rattle.frame.proofs.Shared.{never}
+use Rattle.frame.proofs.Shared.{never, from-here, front-next}
 use Rattle.frame.specs.declared.Refusal.the-variants as refusal
 use Rattle.text.specs.Text.{Digits, value, none, digitOf, digitsValue, lineWord, lineOf, wordIn, wordAt, refused, ifLine, scanFrom, scanned, reached, wordsTo, roomReply, readReply, readWords, linefeeds}
 use Rattle.text.proofs.Digits.{word-bound}
@@ -54,9 +54,7 @@ getD-wordsTo s (suc n) i d h = go (getD-wordsTo s n i d) (eqb i n) refl
 pub words-turn : (s ws : List ℕ) (i w : ℕ) → i < length ws → w ≡ wordAt s i
     → set (wordsTo s i ++ drop i ws) i w ≡ wordsTo s (i + 1) ++ drop (i + 1) ws
 unfolding wordsTo
-words-turn s ws i w h e =
-    rw (add-one, drop-cons ws i 0 h, set-at (wordsTo s i) (getD ws i 0) (drop (suc i) ws) w i (length-wordsTo s i), e)
-    (sym (append-snoc (wordsTo s i) (wordAt s i) (drop (suc i) ws)))
+words-turn s ws i w h e = rw (e, front-next (wordsTo s i) ws i (wordAt s i) (length-wordsTo s i) h, add-one i)
 
 -- What a line shows of the bytes from `at` on: nine of them, eight digits with the word's value, and an LF.
 pub record Shown (s : List ℕ) (at w : ℕ) : Type 0 where
@@ -168,11 +166,7 @@ accepted-linefeeds {s} {i = i} (goes w e r) =
 pub accepted-line : {s : List ℕ} {k i n : ℕ} → Accepted s k i n → (j : ℕ) → i ≤ j → j < n → lineOf s (9 * j) ≡ line.Word (wordAt s j)
 unfolding wordAt
 accepted-line {i = i} (ends l) j a b = absurd (omega arith)
-accepted-line {s} {i = i} {n} (goes w e r) j a b = go (accepted-line r j) (eqb i j) refl
-  where
-    go : (i + 1 ≤ j → j < n → lineOf s (9 * j) ≡ line.Word (wordAt s j)) → (t : Bool) → eqb i j ≡ t → lineOf s (9 * j) ≡ line.Word (wordAt s j)
-    go ih true q = rw (← eqb-true i j q) (rw e)
-    go ih false q = ih (omega (arith, eqb-false i j q)) b
+accepted-line {s} {i = i} {n} (goes w e r) j a b = from-here (λ j. lineOf s (9 * j) ≡ line.Word (wordAt s j)) i n (rw e) (accepted-line r) j a b
 
 -- What a text of n lines is like.
 module _ (s : List ℕ) (n : ℕ) (e : scanned s ≡ reply.Lines n) where
