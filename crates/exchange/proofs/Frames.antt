@@ -1,6 +1,6 @@
 -- The words of a sound recording decode, so its frames stand for them: each is in its ranges, and its word is the recording's.
 use Prim.Native.Nat.{ℕ, zero, suc, _+_, _<_}
-use mathlib.Core.Path.{_≡_, refl, sym, _∙_}
+use mathlib.Core.Path.{_≡_, sym, _∙_}
 use mathlib.Core.List.{List, [], _∷_}
 use native.Mathlib.Omega.{arith}
 use lib.ListN.{length, getD}
@@ -9,13 +9,10 @@ use Rattle.frame.proofs.Laws.{decoded-in-range, encode-decode}
 use Rattle.frame.specs.Frame.{decodeWord, encodeFrame, InRange}
 use Rattle.frame.specs.declared.Frame.{Frame}
 use Rattle.frame.specs.declared.Refusal.{Refusal}
-use Rattle.frame.specs.declared.Decoded.{Decoded}
 use Rattle.frame.specs.declared.Decoded.the-variants as decoded
-use Rattle.soundness.proofs.Laws.{check-short, sound-fits}
-use Rattle.soundness.specs.Soundness.{State, stepped, stepFrame, refused, checkFrom, checkReply, start}
+use Rattle.soundness.proofs.Laws.{check-short, sound-fits, sound-first}
+use Rattle.soundness.specs.Soundness.{State, checkFrom, checkReply, start}
 use Rattle.soundness.specs.declared.CheckReply.the-variants as check
-use Rattle.soundness.specs.declared.Outcome.{Outcome}
-use Rattle.soundness.specs.declared.Outcome.the-variants as outcome
 use Rattle.exchange.specs.Exchange.{frameOf}
 
 -- The word decodes, as its frame.
@@ -38,16 +35,9 @@ AllDecode (w ∷ ws) = Decodes w × AllDecode ws
 all-decode : (i : ℕ) (s : State) (ws : List ℕ) → checkFrom i s ws .reply ≡ check.Sound → AllDecode ws
 unfolding checkFrom
 all-decode i s [] e = tt
-all-decode i s (w ∷ ws) e = decode-case (decodeWord w) refl (λ n. all-decode (i + 1) n ws)
-  where
-    step-case : (f : Frame) → decodeWord w ≡ decoded.Frame f → (o : Outcome) (n : State) → stepFrame f s ≡ stepped o n
-        → ((m : State) → checkFrom (i + 1) m ws .reply ≡ check.Sound → AllDecode ws) → AllDecode (w ∷ ws)
-    step-case f d outcome.Next n g rest = (decodes-as w f d, rest n (rw (d, g) at e))
-    step-case f d (outcome.Bad b) n g rest = let y : refused b i ≡ check.Sound = rw (d, g) at e in never (cc)
-
-    decode-case : (x : Decoded) → decodeWord w ≡ x → ((m : State) → checkFrom (i + 1) m ws .reply ≡ check.Sound → AllDecode ws) → AllDecode (w ∷ ws)
-    decode-case (decoded.Frame f) d rest = step-case f d (stepFrame f s .outcome) (stepFrame f s .state) refl rest
-    decode-case (decoded.Bad b) d rest = let y : refused b i ≡ check.Sound = rw d at e in never (cc)
+all-decode i s (w ∷ ws) e =
+    let q = sound-first i s w ws e in
+    (decodes-as w (q .frame) (q .is), all-decode (i + 1) (q .next) ws (q .rest))
 
 pub sound-all-decode : (ws : List ℕ) → checkReply ws ≡ check.Sound → AllDecode ws
 sound-all-decode ws e = all-decode 0 start ws (sym (check-short ws (sound-fits ws e)) ∙ e)

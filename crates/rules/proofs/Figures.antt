@@ -20,11 +20,9 @@ use Rattle.frame.specs.declared.Decoded.{Decoded}
 use Rattle.frame.specs.declared.Decoded.the-variants as decoded
 use Rattle.guards.specs.declared.Guard.{Guard}
 use Rattle.guards.specs.declared.Guard.the-variants.{Locked, Unprotected, Inferred}
-use Rattle.soundness.specs.Soundness.{State, stepped, stepFrame, refused, checkFrom, checkReply, start}
-use Rattle.soundness.specs.declared.Outcome.{Outcome}
-use Rattle.soundness.specs.declared.Outcome.the-variants as outcome
+use Rattle.soundness.specs.Soundness.{State, stepFrame, checkFrom, checkReply, start}
 use Rattle.soundness.specs.declared.CheckReply.the-variants as check
-use Rattle.soundness.proofs.Laws.{check-short, sound-fits}
+use Rattle.soundness.proofs.Laws.{check-short, sound-fits, First, sound-first}
 use Rattle.reply.specs.Reply.{reducible, violated}
 use Rattle.reply.specs.declared.Kind.{Kind}
 use Rattle.reply.specs.declared.Kind.the-variants.{GuardNotHeld, UnprotectedAfterCommit, AcquireAfterCommit, SetEmptied}
@@ -149,26 +147,6 @@ data Ends (guards : List ℕ) (i : ℕ) (s : State) (j : Judging) (ws : List ℕ
   all : judgeFrom guards i s j ws .reply ≡ reducible → AllStep (guarding guards) s (storeOf (s .depths) j) ws → Ends guards i s j ws
   some : (m : ℕ) (v : Violation) → judgeFrom guards i s j ws .reply ≡ violated v → v .frame ≡ i + m
       → WrongAt (guarding guards) s (storeOf (s .depths) j) ws m (v .kind) → Ends guards i s j ws
-
--- The first of frames that are sound.
-record First (i : ℕ) (s : State) (w : ℕ) (ws : List ℕ) : Type 0 where
-  frame : Frame
-  next : State
-  is : decodeWord w ≡ decoded.Frame frame
-  passes : stepFrame frame s ≡ stepped outcome.Next next
-  rest : checkFrom (i + 1) next ws .reply ≡ check.Sound
-
-sound-first : (i : ℕ) (s : State) (w : ℕ) (ws : List ℕ) → checkFrom i s (w ∷ ws) .reply ≡ check.Sound → First i s w ws
-unfolding checkFrom
-sound-first i s w ws c = decode-case (decodeWord w) refl
-  where
-    step-case : (f : Frame) → decodeWord w ≡ decoded.Frame f → (o : Outcome) (n : State) → stepFrame f s ≡ stepped o n → First i s w ws
-    step-case f d outcome.Next n g = record { frame = f; next = n; is = d; passes = g; rest = rw (d, g) at c }
-    step-case f d (outcome.Bad b) n g = let y : refused b i ≡ check.Sound = rw (d, g) at c in never (cc)
-
-    decode-case : (x : Decoded) → decodeWord w ≡ x → First i s w ws
-    decode-case (decoded.Frame f) d = step-case f d (stepFrame f s .outcome) (stepFrame f s .state) refl
-    decode-case (decoded.Bad b) d = let y : refused b i ≡ check.Sound = rw d at c in never (cc)
 
 -- a pass over sound frames ends so
 ends : (guards : List ℕ) (i : ℕ) (s : State) (j : Judging) (ws : List ℕ) → checkFrom i s ws .reply ≡ check.Sound → Sized (s .depths) j → Ends guards i s j ws

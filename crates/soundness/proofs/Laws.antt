@@ -2,7 +2,7 @@
 use Prim.Native.Nat.{ℕ, _+_, _≤_, _<_}
 use mathlib.Core.Path.{_≡_, refl, sym, ap, _∙_}
 use mathlib.Core.Bool.{Bool, true, false, cond}
-use mathlib.Core.List.{List}
+use mathlib.Core.List.{List, _∷_}
 use native.Mathlib.Numerals.{add-one}
 use lib.ListN.{length, getD, drop, drop-of-length-le}
 use lib.Seq.{drop-cons}
@@ -11,10 +11,12 @@ use borrow.Author.Tests.{le-ltb, ltb-false}
 use Rattle.frame.proofs.Shared.{never}
 use Rattle.frame.specs.Frame.{decodeWord}
 use Rattle.frame.specs.declared.Frame.{Frame}
+use Rattle.frame.specs.declared.Decoded.{Decoded}
 use Rattle.frame.specs.declared.Decoded.the-variants as decoded
 use Rattle.frame.specs.declared.Refusal.{Refusal}
 use Rattle.frame.specs.declared.Refusal.the-variants as refusal
 use Rattle.soundness.specs.declared.CheckReply.the-variants as reply
+use Rattle.soundness.specs.declared.Outcome.{Outcome}
 use Rattle.soundness.specs.declared.Outcome.the-variants as outcome
 use Rattle.soundness.specs.Soundness.{State, Stepped, stepped, stepFrame, stepDecoded, onOutcome, checked, refused, checkFrom, checkReply, start}
 
@@ -54,6 +56,26 @@ sound-fits ws e = go (ltb 4096 (length ws)) refl
         let f : refused refusal.TooLong 4096 ≡ reply.Sound = rw q at e in
         never (cc)
     go false q = ltb-false 4096 (length ws) q
+
+-- The first of frames that are sound.
+pub record First (i : ℕ) (s : State) (w : ℕ) (ws : List ℕ) : Type 0 where
+  pub frame : Frame
+  pub next : State
+  pub is : decodeWord w ≡ decoded.Frame frame
+  pub passes : stepFrame frame s ≡ stepped outcome.Next next
+  pub rest : checkFrom (i + 1) next ws .reply ≡ reply.Sound
+
+pub sound-first : (i : ℕ) (s : State) (w : ℕ) (ws : List ℕ) → checkFrom i s (w ∷ ws) .reply ≡ reply.Sound → First i s w ws
+unfolding checkFrom
+sound-first i s w ws c = decode-case (decodeWord w) refl
+  where
+    step-case : (f : Frame) → decodeWord w ≡ decoded.Frame f → (o : Outcome) (n : State) → stepFrame f s ≡ stepped o n → First i s w ws
+    step-case f d outcome.Next n g = record { frame = f; next = n; is = d; passes = g; rest = rw (d, g) at c }
+    step-case f d (outcome.Bad b) n g = let y : refused b i ≡ reply.Sound = rw (d, g) at c in never (cc)
+
+    decode-case : (x : Decoded) → decodeWord w ≡ x → First i s w ws
+    decode-case (decoded.Frame f) d = step-case f d (stepFrame f s .outcome) (stepFrame f s .state) refl
+    decode-case (decoded.Bad b) d = let y : refused b i ≡ reply.Sound = rw d at c in never (cc)
 
 -- a refused step is no step on
 no-step : {A : Type 0} (r : Refusal) (s n : State) → stepped (outcome.Bad r) s ≡ stepped outcome.Next n → A
