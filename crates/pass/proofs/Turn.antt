@@ -8,7 +8,7 @@ use borrow.Author.Tests.{eqb-true}
 use lib.Dec.{eqb, leb}
 use lib.ListN.{length, getD, set, drop, replicate, length-set, getD-replicate}
 use lib.Seq.{getD-set-same, getD-set-other}
-use Rattle.frame.specs.Frame.{ObjectInRange, decodeWord}
+use Rattle.frame.specs.Frame.{ObjectInRange, InRange, decodeWord}
 use Rattle.frame.proofs.Laws.{decoded-in-range}
 use Rattle.frame.specs.declared.Frame.{Frame}
 use Rattle.frame.specs.declared.Decoded.the-variants as decoded
@@ -106,6 +106,29 @@ module _ (guards hs : List ℕ) (t : ℕ) (s n : State) (small : t < 32) (fs : F
       let p = spared (eqb (getD (s .depths) t 0) 0) refusal.NoOpenBlock s (stateOf (s .owners) (set (s .depths) t (getD (s .depths) t 0 - 1))) n e in
       record { fits = tt; follows = rw (p .1) fs }
 
+-- no thread holds a lock at the start
+pub none-held : Follows (replicate 32 0) (replicate 64 0)
+none-held = record {
+  owners-long = refl;
+  held-long = refl;
+  are = λ t h. getD-replicate 32 t 0 0 h ∙ sym (held-none t 64);
+}
+
+-- One frame, in the arrays' terms.
+module _ (guards depths : List ℕ) {owners hs : List ℕ} (fs : Follows hs owners) {f : Frame} (r : InRange f) where
+  module _ {n : State} (g : stepFrame f (stateOf owners depths) ≡ stepped outcome.Next n) where
+    pub frame-held : Held guards hs (f .thread .0) (f .action) n
+    frame-held = held-step guards hs (f .thread .0) (stateOf owners depths) n (r .thread) fs (f .action) (r .object) g
+
+    pub frame-follows : {o : Operation} {v : Verdict} {hs′ : List ℕ} → o ≡ operationOf guards (f .action) → v ≡ verdict.Reducible → hs′ ≡ holding v (f .thread .0) o hs
+        → Follows hs′ (n .owners)
+    frame-follows {hs′ = hs′} oe q u = let y : hs′ ≡ held (f .thread .0) (operationOf guards (f .action)) hs = rw (q, oe) at u in rw y (frame-held .follows)
+
+  pub frame-judged : (i : ℕ) (j : Judging) {o : Operation} {v : Verdict} {k : Judging} → o ≡ operationOf guards (f .action)
+      → judgeOperation i (f .thread) (getD depths (f .thread .0) 0) (getD hs (f .thread .0) 0) o j ≡ judged v k
+      → judgeFrame guards i f (stateOf owners depths) j ≡ judged v k
+  frame-judged i j oe a = rw (← fs .are (f .thread .0) (r .thread), ← oe) a
+
 -- The loop's invariant: the pass is that of going on from place i with the state in the arrays.
 pub record Inv (words guards sets₀ sets owners depths hs begins commits : List ℕ) (i : ℕ) : Type 0 where
   pub within : i ≤ length words
@@ -116,11 +139,7 @@ pub starts : (words guards sets : List ℕ) → Inv words guards sets sets (repl
 unfolding start startJudging
 starts words guards sets = record {
   within = omega arith;
-  follows = record {
-    owners-long = refl;
-    held-long = refl;
-    are = λ t h. getD-replicate 32 t 0 0 h ∙ sym (held-none t 64);
-  };
+  follows = none-held;
   rest = refl;
 }
 
@@ -145,31 +164,25 @@ module _ {words guards sets₀ sets owners depths hs begins commits : List ℕ} 
       pub turn-fail : {r : Refusal} → stepFrame f (stateOf owners depths) ≡ stepped (outcome.Bad r) n → fusedFrom guards 0 start (startJudging sets₀) words ≡ ended (refused r i) sets
       turn-fail g = inv .rest ∙ fused-fail guards words i (stateOf owners depths) (judgingOf begins commits sets) h f n e _ g
 
-      module _ (g : stepFrame f (stateOf owners depths) ≡ stepped outcome.Next n) where
-        pub turn-held : Held guards hs (f .thread .0) (f .action) n
-        turn-held =
-            held-step guards hs (f .thread .0) (stateOf owners depths) n (decoded-in-range _ _ e .thread) (inv .follows) (f .action) (decoded-in-range _ _ e .object) g
+      module _ (g : stepFrame f (stateOf owners depths) ≡ stepped outcome.Next n) {o : Operation} (oe : o ≡ operationOf guards (f .action)) {v : Verdict} {k : Judging}
+          (a : judgeOperation i (f .thread) (getD depths (f .thread .0) 0) (getD hs (f .thread .0) 0) o (judgingOf begins commits sets) ≡ judged v k) where
+        judged-here : judgeFrame guards i f (stateOf owners depths) (judgingOf begins commits sets) ≡ judged v k
+        judged-here = frame-judged guards depths (inv .follows) (decoded-in-range _ _ e) i (judgingOf begins commits sets) oe a
 
-        module _ {o : Operation} (oe : o ≡ operationOf guards (f .action)) {v : Verdict} {k : Judging}
-            (a : judgeOperation i (f .thread) (getD depths (f .thread .0) 0) (getD hs (f .thread .0) 0) o (judgingOf begins commits sets) ≡ judged v k) where
-          frame-judged : judgeFrame guards i f (stateOf owners depths) (judgingOf begins commits sets) ≡ judged v k
-          frame-judged = rw (← inv .follows .are (f .thread .0) (decoded-in-range _ _ e .thread), ← oe) a
+        pub turn-wrong : {w : Violation} → v ≡ verdict.Violated w
+            → fusedFrom guards 0 start (startJudging sets₀) words ≡ ended (afterCheck (checkFrom (i + 1) n (drop (i + 1) words) .reply) v) (k .sets)
+        turn-wrong {w} q =
+            let j = judgingOf begins commits sets in
+            let z : judgeFrame guards i f (stateOf owners depths) j ≡ judged (verdict.Violated w) k = rw q at judged-here in
+            let kept : k ≡ j = wrong-keeps i (f .thread) (getD depths (f .thread .0) 0) (heldSet (f .thread .0) owners) (operationOf guards (f .action)) j w k z in
+            inv .rest ∙ fused-wrong guards words i (stateOf owners depths) j h f n e g k w z ∙ rw (q, kept)
 
-          pub turn-wrong : {w : Violation} → v ≡ verdict.Violated w
-              → fusedFrom guards 0 start (startJudging sets₀) words ≡ ended (afterCheck (checkFrom (i + 1) n (drop (i + 1) words) .reply) v) (k .sets)
-          turn-wrong {w} q =
-              let j = judgingOf begins commits sets in
-              let z : judgeFrame guards i f (stateOf owners depths) j ≡ judged (verdict.Violated w) k = rw q at frame-judged in
-              let kept : k ≡ j = wrong-keeps i (f .thread) (getD depths (f .thread .0) 0) (heldSet (f .thread .0) owners) (operationOf guards (f .action)) j w k z in
-              inv .rest ∙ fused-wrong guards words i (stateOf owners depths) j h f n e g k w z ∙ rw (q, kept)
-
-          pub turn-next : {hs′ : List ℕ} → v ≡ verdict.Reducible → hs′ ≡ holding v (f .thread .0) o hs
-              → Inv words guards sets₀ (k .sets) (n .owners) (n .depths) hs′ (k .begins) (k .commits) (i + 1)
-          turn-next {hs′} q u =
-              let z : judgeFrame guards i f (stateOf owners depths) (judgingOf begins commits sets) ≡ judged verdict.Reducible k = rw q at frame-judged in
-              let y : hs′ ≡ held (f .thread .0) (operationOf guards (f .action)) hs = rw (q, oe) at u in
-              record {
-                within = omega arith;
-                follows = rw y (turn-held .follows);
-                rest = inv .rest ∙ fused-next guards words i (stateOf owners depths) (judgingOf begins commits sets) h f n e g k z;
-              }
+        pub turn-next : {hs′ : List ℕ} → v ≡ verdict.Reducible → hs′ ≡ holding v (f .thread .0) o hs
+            → Inv words guards sets₀ (k .sets) (n .owners) (n .depths) hs′ (k .begins) (k .commits) (i + 1)
+        turn-next q u =
+            let z : judgeFrame guards i f (stateOf owners depths) (judgingOf begins commits sets) ≡ judged verdict.Reducible k = rw q at judged-here in
+            record {
+              within = omega arith;
+              follows = frame-follows guards depths (inv .follows) (decoded-in-range _ _ e) g oe q u;
+              rest = inv .rest ∙ fused-next guards words i (stateOf owners depths) (judgingOf begins commits sets) h f n e g k z;
+            }

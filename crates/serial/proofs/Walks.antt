@@ -1,12 +1,12 @@
 -- The loops over a recording: one turn of the walk to the end, and of the walk that writes units.
 use Prim.Native.Nat.{ℕ, _+_, _-_, _<_, _≤_}
-use mathlib.Core.Path.{_≡_, refl, sym, ap, _∙_, subst}
+use mathlib.Core.Path.{_≡_, refl, ap, _∙_, subst}
 use mathlib.Core.Bool.{Bool, true, false}
 use mathlib.Core.List.{List, [], _++_}
 use native.Mathlib.Omega.{arith}
 use native.Mathlib.Numerals.{add-one}
 use lib.Dec.{eqb}
-use lib.ListN.{length, getD, take, drop, replicate, drop-of-length-le, length-append, length-drop, getD-replicate}
+use lib.ListN.{length, getD, take, drop, replicate, drop-of-length-le, length-append, length-drop}
 use lib.Seq.{drop-cons, take-all}
 use Rattle.frame.specs.Frame.{decodeWord}
 use Rattle.frame.proofs.Laws.{decoded-in-range}
@@ -21,41 +21,16 @@ use Rattle.reply.specs.declared.Violation.{Violation}
 use Rattle.reply.specs.declared.Verdict.{Verdict}
 use Rattle.reply.specs.declared.Verdict.the-variants as verdict
 use Rattle.judge.specs.Rules.{Judging, judgingOf, judged, phaseOf, operationOf, judgeOperation}
-use Rattle.judge.specs.Held.{held, holding}
+use Rattle.judge.specs.Held.{holding}
 use Rattle.judge.specs.declared.Operation.{Operation}
-use Rattle.judge.proofs.Held.{held-none}
 use Rattle.pass.specs.Pass.{judgeFrame, startJudging, fullSets}
-use Rattle.pass.proofs.Turn.{Follows, Held, held-step}
+use Rattle.pass.proofs.Turn.{Follows, none-held, frame-follows, frame-judged}
 use Rattle.serial.specs.Order.{Point, settled}
 use Rattle.serial.specs.Walk.{unitOf, unitStart, unitIn, walkFrom, walkWords, endFrom, endPoint}
 use Rattle.serial.proofs.Written.{Written, written-none, written-part, room}
 
 abbrev pub pointOf : List ℕ → List ℕ → List ℕ → List ℕ → List ℕ → Point
 pointOf o d b c s = record { state = stateOf o d; judging = judgingOf b c s }
-
--- no thread holds a lock at the start
-pub none-held : Follows (replicate 32 0) (replicate 64 0)
-none-held = record {
-  owners-long = refl;
-  held-long = refl;
-  are = λ t h. getD-replicate 32 t 0 0 h ∙ sym (held-none t 64);
-}
-
--- one frame that is sound, in the arrays' terms
-module _ (guards owners depths hs : List ℕ) (w : ℕ) (fs : Follows hs owners) (f : Frame) (e : decodeWord w ≡ decoded.Frame f) (n : State)
-    (g : stepFrame f (stateOf owners depths) ≡ stepped outcome.Next n) where
-  pub frame-held : Held guards hs (f .thread .0) (f .action) n
-  frame-held = held-step guards hs (f .thread .0) (stateOf owners depths) n (decoded-in-range w f e .thread) fs (f .action) (decoded-in-range w f e .object) g
-
-  pub frame-follows : (o : Operation) (v : Verdict) (hs′ : List ℕ) → o ≡ operationOf guards (f .action) → v ≡ verdict.Reducible → hs′ ≡ holding v (f .thread .0) o hs
-      → Follows hs′ (n .owners)
-  frame-follows o v hs′ oe q u = let y : hs′ ≡ held (f .thread .0) (operationOf guards (f .action)) hs = rw (q, oe) at u in rw y (frame-held .follows)
-
-frame-judged : (guards owners depths hs begins commits sets : List ℕ) (i w : ℕ) (f : Frame) (o : Operation) (v : Verdict) (k : Judging) → Follows hs owners
-    → decodeWord w ≡ decoded.Frame f → o ≡ operationOf guards (f .action)
-    → judgeOperation i (f .thread) (getD depths (f .thread .0) 0) (getD hs (f .thread .0) 0) o (judgingOf begins commits sets) ≡ judged v k
-    → judgeFrame guards i f (stateOf owners depths) (judgingOf begins commits sets) ≡ judged v k
-frame-judged guards owners depths hs begins commits sets i w f o v k fs e oe a = rw (← fs .are (f .thread .0) (decoded-in-range w f e .thread), ← oe) a
 
 -- The walk to the end.
 pub record EndInv (words guards owners depths hs begins commits sets : List ℕ) (i : ℕ) : Type 0 where
@@ -84,17 +59,20 @@ module _ {words guards owners depths hs begins commits sets : List ℕ} {i : ℕ
 
       module _ (g : stepFrame f (stateOf owners depths) ≡ stepped outcome.Next n) {o : Operation} (oe : o ≡ operationOf guards (f .action)) {v : Verdict} {k : Judging}
           (a : judgeOperation i (f .thread) (getD depths (f .thread .0) 0) (getD hs (f .thread .0) 0) o (judgingOf begins commits sets) ≡ judged v k) where
+        end-judged : judgeFrame guards i f (stateOf owners depths) (judgingOf begins commits sets) ≡ judged v k
+        end-judged = frame-judged guards depths (inv .follows) (decoded-in-range _ _ e) i (judgingOf begins commits sets) oe a
+
         pub end-wrong : {x : Violation} → v ≡ verdict.Violated x → endPoint guards words ≡ record { state = n; judging = k }
         unfolding endFrom
-        end-wrong q = inv .rest ∙ rw (drop-cons words i 0 h, e, g, frame-judged guards owners depths hs begins commits sets i (getD words i 0) f o v k (inv .follows) e oe a, q)
+        end-wrong q = inv .rest ∙ rw (drop-cons words i 0 h, e, g, end-judged, q)
 
         pub end-next : {hs′ : List ℕ} → v ≡ verdict.Reducible → hs′ ≡ holding v (f .thread .0) o hs
             → EndInv words guards (n .owners) (n .depths) hs′ (k .begins) (k .commits) (k .sets) (i + 1)
         unfolding endFrom
-        end-next {hs′} q u = record {
+        end-next q u = record {
           within = omega arith;
-          follows = frame-follows guards owners depths hs (getD words i 0) (inv .follows) f e n g o v hs′ oe q u;
-          rest = inv .rest ∙ rw (drop-cons words i 0 h, e, g, frame-judged guards owners depths hs begins commits sets i (getD words i 0) f o v k (inv .follows) e oe a, q, add-one i);
+          follows = frame-follows guards depths (inv .follows) (decoded-in-range _ _ e) g oe q u;
+          rest = inv .rest ∙ rw (drop-cons words i 0 h, e, g, end-judged, q, add-one i);
         }
 
 -- The walk that writes units.
@@ -138,9 +116,12 @@ module _ {words guards out₀ out owners depths hs begins commits sets : List �
 
       module _ (g : stepFrame f (stateOf owners depths) ≡ stepped outcome.Next n) {o : Operation} (oe : o ≡ operationOf guards (f .action)) {v : Verdict} {k : Judging}
           (a : judgeOperation i (f .thread) (getD depths (f .thread .0) 0) (getD hs (f .thread .0) 0) o (judgingOf begins commits sets) ≡ judged v k) where
+        walk-judged : judgeFrame guards i f (stateOf owners depths) (judgingOf begins commits sets) ≡ judged v k
+        walk-judged = frame-judged guards depths (inv .follows) (decoded-in-range _ _ e) i (judgingOf begins commits sets) oe a
+
         pub walk-wrong : {x : Violation} → v ≡ verdict.Violated x → Written out₀ out at (walkWords guards words) []
         unfolding walkFrom
-        walk-wrong q = stops (rw (drop-cons words i 0 h, e, g, frame-judged guards owners depths hs begins commits sets i (getD words i 0) f o v k (inv .follows) e oe a, q))
+        walk-wrong q = stops (rw (drop-cons words i 0 h, e, g, walk-judged, q))
 
         module _ (q : v ≡ verdict.Reducible) {hs′ : List ℕ} (u : hs′ ≡ holding v (f .thread .0) o hs) {m : Mark}
             (s : m ≡ unitStart (phaseOf (getD depths (f .thread .0) 0) (getD begins (f .thread .0) 0) (getD commits (f .thread .0) 0)) (settled (phaseOf (getD (n .depths) (f .thread .0) 0) 0 (getD (k .commits) (f .thread .0) 0))) i) where
@@ -151,13 +132,13 @@ module _ {words guards out₀ out owners depths hs begins commits sets : List �
               ≡ unitIn m words (f .thread) ++ walkFrom guards words (i + 1) (record { state = n; judging = k }) (drop (i + 1) words)
           unfolding walkFrom
           turn =
-              rw (drop-cons words i 0 h, e, g, frame-judged guards owners depths hs begins commits sets i (getD words i 0) f o v k (inv .follows) e oe a, q, add-one i, settled-begin (getD (n .depths) (f .thread .0) 0) (getD (k .begins) (f .thread .0) 0) (getD (k .commits) (f .thread .0) 0), ← s)
+              rw (drop-cons words i 0 h, e, g, walk-judged, q, add-one i, settled-begin (getD (n .depths) (f .thread .0) 0) (getD (k .begins) (f .thread .0) 0) (getD (k .commits) (f .thread .0) 0), ← s)
 
           came : Written out₀ out at (walkWords guards words) (unitIn m words (f .thread) ++ walkFrom guards words (i + 1) (record { state = n; judging = k }) (drop (i + 1) words))
           came = subst (λ (l : List ℕ). Written out₀ out at (walkWords guards words) l) turn (inv .written)
 
           pub walk-none : m ≡ Absent → WalkInv words guards out₀ out (n .owners) (n .depths) hs′ (k .begins) (k .commits) (k .sets) at (i + 1)
-          walk-none z = record { within = omega arith; follows = frame-follows guards owners depths hs (getD words i 0) (inv .follows) f e n g o v hs′ oe q u; written = rw z at came }
+          walk-none z = record { within = omega arith; follows = frame-follows guards depths (inv .follows) (decoded-in-range _ _ e) g oe q u; written = rw z at came }
 
           module _ {b : ℕ} (z : m ≡ At b) (r : length (walkWords guards words) ≤ length out₀) where
             to-come : Written out₀ out at (walkWords guards words) (unitOf words b (f .thread) ++ walkFrom guards words (i + 1) (record { state = n; judging = k }) (drop (i + 1) words))
@@ -177,7 +158,7 @@ module _ {words guards out₀ out owners depths hs begins commits sets : List �
                 → WalkInv words guards out₀ (take at out ++ (ys ++ drop (length out - at) (drop at out))) (n .owners) (n .depths) hs′ (k .begins) (k .commits) (k .sets) (at + c) (i + 1)
             walk-writes {c} em ey = record {
               within = omega arith;
-              follows = frame-follows guards owners depths hs (getD words i 0) (inv .follows) f e n g o v hs′ oe q u;
+              follows = frame-follows guards depths (inv .follows) (decoded-in-range _ _ e) g oe q u;
               written = written-part (unitOf words b (f .thread)) (walkFrom guards words (i + 1) (record { state = n; judging = k }) (drop (i + 1) words)) to-come r em
                   (ey ∙ ap (λ (l : List ℕ). unitOf words b (f .thread) ++ drop c l) lent);
             }

@@ -6,7 +6,7 @@ use borrow.Author.Needs.{needs}
 use lib.ListN.{length}
 use Rattle.frame.proofs.Laws.{decoded-in-range}
 use Rattle.soundness.specs.Soundness.{Checked}
-use Rattle.pass.proofs.Turn.{Inv, starts, answers, turn-end, turn-bad, turn-fail, turn-held, turn-wrong, turn-next}
+use Rattle.pass.proofs.Turn.{Inv, starts, answers, frame-held, turn-end, turn-bad, turn-fail, turn-wrong, turn-next}
 use Rattle.pass.proofs.run.Statement.{statement}
 use Rattle.pass.proofs.run.Tie as tie
 
@@ -90,13 +90,13 @@ cast-judge c = search needs
 
 judge-requires : tie.Need-judge-requires Inv-loop μ-loop
 judge-requires c κs =
-    let inv = c .before .before .before .before .before .before .before .before .before .before .before .before .before .before .before .before .before .before .loop .inv in
+    let l = c .before .before .before .before .before .before .before .before .before .before .before .before .before .before .before .before .before .before .loop in
     let a = c .before .before .before .before .before .before .before .before .before .before .before .before .before .before .before .before .before .before .before .before .args in
     let h = c .before .before .before .before .before .before .before .before .before .before .before .before .before .before .before .before .before .loop-test .taken in
     let e = sym (c .before .before .before .before .before .before .before .before .before .before .before .before .before .before .before .decode .ensures) ∙ c .before .before .before .before .before .before .before .before .before .before .before .before .before .d .given .1 in
     let p = c .before .before .before .before .before .before .before .step in
     let g = rw (c .before .before .before .before .before .enum-told2 .given .1) at (p .ensures) in
-    (decoded-in-range _ _ e .thread, (omega (arith, h, c .before .before .before .before .before .before .before .before .before .before .before .before .before .before .before .before .before .before .before .before .pre), rw (c .before .before .before .before .operation-of .ensures) (turn-held inv h e g .fits)))
+    (decoded-in-range _ _ e .thread, (omega (arith, h, c .before .before .before .before .before .before .before .before .before .before .before .before .before .before .before .before .before .before .before .before .pre), rw (c .before .before .before .before .operation-of .ensures) (frame-held (a .guards .now) (l .depths) (l .inv .follows) (decoded-in-range _ _ e) g .fits)))
 
 enum-told-4 : tie.Need-enum-told-4 Inv-loop μ-loop
 enum-told-4 c = search needs

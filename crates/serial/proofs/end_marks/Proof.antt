@@ -6,7 +6,8 @@ use borrow.Author.Needs.{needs}
 use lib.ListN.{length}
 use Rattle.frame.proofs.Laws.{decoded-in-range}
 use Rattle.serial.specs.Order.{Point}
-use Rattle.serial.proofs.Walks.{EndInv, end-begins, end-done, end-bad, end-fail, end-wrong, end-next, frame-held}
+use Rattle.pass.proofs.Turn.{frame-held}
+use Rattle.serial.proofs.Walks.{EndInv, end-begins, end-done, end-bad, end-fail, end-wrong, end-next}
 use Rattle.serial.proofs.end_marks.Statement.{statement}
 use Rattle.serial.proofs.end_marks.Tie as tie
 
@@ -76,12 +77,12 @@ cast-judge c = search needs
 
 judge-requires : tie.Need-judge-requires Inv-loop μ-loop
 judge-requires c κs =
-    let inv = c .before .before .before .before .before .before .before .before .before .before .before .before .before .before .before .before .before .before .loop .inv in
+    let l = c .before .before .before .before .before .before .before .before .before .before .before .before .before .before .before .before .before .before .loop in
     let h = c .before .before .before .before .before .before .before .before .before .before .before .before .before .before .before .before .before .loop-test .taken in
     let e = sym (c .before .before .before .before .before .before .before .before .before .before .before .before .before .before .before .decode .ensures) ∙ c .before .before .before .before .before .before .before .before .before .before .before .before .before .d .given .1 in
     let p = c .before .before .before .before .before .before .before .step in
     let g = rw (c .before .before .before .before .before .enum-told2 .given .1) at (p .ensures) in
-    (decoded-in-range _ _ e .thread, (omega (arith, h, c .before .before .before .before .before .before .before .before .before .before .before .before .before .before .before .before .before .before .before .before .pre), rw (c .before .before .before .before .operation-of .ensures) (frame-held (c .before .before .before .before .before .before .before .before .before .before .before .before .before .before .before .before .before .before .before .before .args .guards .now) (c .before .before .before .before .before .before .before .before .before .before .before .before .before .before .before .before .before .before .loop .owners) (c .before .before .before .before .before .before .before .before .before .before .before .before .before .before .before .before .before .before .loop .depths) (c .before .before .before .before .before .before .before .before .before .before .before .before .before .before .before .before .before .before .loop .held) _ (inv .follows) _ e _ g .fits)))
+    (decoded-in-range _ _ e .thread, (omega (arith, h, c .before .before .before .before .before .before .before .before .before .before .before .before .before .before .before .before .before .before .before .before .pre), rw (c .before .before .before .before .operation-of .ensures) (frame-held (c .before .before .before .before .before .before .before .before .before .before .before .before .before .before .before .before .before .before .before .before .args .guards .now) (l .depths) (l .inv .follows) (decoded-in-range _ _ e) g .fits)))
 
 enum-told-4 : tie.Need-enum-told-4 Inv-loop μ-loop
 enum-told-4 c = search needs
