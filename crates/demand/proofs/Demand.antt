@@ -9,17 +9,14 @@ use native.Mathlib.Numerals.{add-one}
 use borrow.Author.Tests.{eqb-true, ltb-true, ltb-false}
 use lib.Dec.{eqb, ltb}
 use lib.ListN.{length, getD, drop, List·getD-eq-default}
-use lib.Seq.{getD-drop}
 use Rattle.frame.proofs.Shared.{never, either, from-here}
 use Rattle.frame.specs.Frame.{decodeWord, encodeFrame}
 use Rattle.frame.specs.declared.Thread.{Thread}
-use Rattle.frame.specs.declared.Variable.{Variable}
 use Rattle.frame.specs.declared.Frame.{Frame}
 use Rattle.frame.specs.declared.Action.{Action}
 use Rattle.frame.specs.declared.Action.the-variants as action
 use Rattle.frame.specs.declared.Decoded.{Decoded}
 use Rattle.frame.specs.declared.Decoded.the-variants as decoded
-use Rattle.guards.specs.Guards.{guardOf}
 use Rattle.reply.specs.declared.Mark.{Mark}
 use Rattle.reply.specs.declared.Mark.the-variants.{At, Absent}
 use Rattle.reply.specs.declared.Verdict.{Verdict}
@@ -27,13 +24,13 @@ use Rattle.reply.specs.declared.Verdict.the-variants as verdict
 use Rattle.soundness.specs.Soundness.{State, stepFrame, checkFrom, start}
 use Rattle.soundness.specs.declared.Outcome.{Outcome}
 use Rattle.soundness.specs.declared.Outcome.the-variants as outcome
-use Rattle.judge.specs.Rules.{accessOf, guardedAccess, operationOf}
+use Rattle.judge.specs.Rules.{operationOf}
 use Rattle.judge.specs.declared.Operation.{Operation}
 use Rattle.judge.specs.declared.Operation.the-variants.{Acquire, Release, Protected, Unprotected, Inferred, Begin, End}
 use Rattle.pass.specs.Pass.{Ended, judgeFrame, startJudging, fullSets}
 use Rattle.pass.proofs.Judgement.{judgement-pass, judgement-sound}
 use Rattle.rules.specs.Choice.{Reducible, Choice, choose}
-use Rattle.rules.proofs.Choice.{chosen, access-chosen, inferred-is-some-choice}
+use Rattle.rules.proofs.Choice.{chosen, operation-chosen, inferred-is-some-choice}
 use Rattle.exchange.specs.Exchange.{Exchanges, framesOf}
 use Rattle.exchange.specs.Independent.{independent}
 use Rattle.exchange.proofs.Frames.{AllDecode, frame-word, sound-all-decode}
@@ -47,21 +44,10 @@ use Rattle.reduction.proofs.Run.{threadOf, Run, begin, Good, depthAt, put}
 use Rattle.reduction.proofs.Steps.{by-test}
 use Rattle.reduction.proofs.Serial.{serialOrder, Serial, serial-exchanges, serial-serial}
 use Rattle.reduction.proofs.Units.{walk, serial-walk}
-use Rattle.reduction.proofs.Alike.{Alike, alike-same, alike-inferred, alike-accesses, serialOrder-alike}
+use Rattle.reduction.proofs.Alike.{Alike, alike-same, alike-inferred, serialOrder-alike}
 use Rattle.demand.specs.Demand.{ThirdTerm}
 use Rattle.demand.proofs.View.{Declared}
 use Rattle.demand.proofs.Recording.{Pass, less-one, pass-made, start-long, start-view, pass-good, order-frames, pass-depth, pass-walk, pass-end, pass-end-long}
-
--- a variable's guard is the chosen lock where it is inferred
-choose-at : (guards locks : List ℕ) (x : ℕ) → getD (choose guards locks) x 0 ≡ cond (ltb 64 (getD guards x 0)) (getD locks x 0) (getD guards x 0)
-choose-at [] locks x = refl
-choose-at (c ∷ guards) locks zero = refl
-choose-at (c ∷ guards) locks (suc x) =
-    choose-at guards (drop 1 locks) x
-    ∙ ap (λ (n : ℕ). cond (ltb 64 (getD guards x 0)) n (getD guards x 0)) (getD-drop 1 locks x 0 ∙ ap (λ (n : ℕ). getD locks n 0) one-more)
-  where
-    one-more : 1 + x ≡ suc x
-    one-more = omega arith
 
 -- an operation under the chosen locks does the same to locks, depths and commits, and is under no inferred guard
 alike-chosen : (locks : List ℕ) (o : Operation) → Alike o (chosen locks o)
@@ -83,22 +69,11 @@ declared-chosen locks Begin = tt
 declared-chosen locks End = tt
 
 module _ (guards locks : List ℕ) (c : Choice locks) where
-  access-choice : (v : Variable) → accessOf (choose guards locks) v ≡ chosen locks (accessOf guards v)
-  access-choice v =
-      ap (λ (n : ℕ). guardedAccess (guardOf n) v) (choose-at guards locks (v .0)) ∙ access-chosen locks v (getD guards (v .0) 0) (c .small (v .0))
-
   choice-alike : (a : Action) → Alike (operationOf guards a) (operationOf (choose guards locks) a)
-  choice-alike =
-      alike-accesses guards (choose guards locks)
-      (λ v. subst (λ (o : Operation). Alike (accessOf guards v) o) (sym (access-choice v)) (alike-chosen locks (accessOf guards v)))
+  choice-alike a = subst (λ (o : Operation). Alike (operationOf guards a) o) (sym (operation-chosen guards locks c a)) (alike-chosen locks (operationOf guards a))
 
   choice-declared : (a : Action) → Declared (operationOf (choose guards locks) a)
-  choice-declared (action.Acquire l) = tt
-  choice-declared (action.Release l) = tt
-  choice-declared (action.Read v) = subst Declared (sym (access-choice v)) (declared-chosen locks (accessOf guards v))
-  choice-declared (action.Write v) = subst Declared (sym (access-choice v)) (declared-chosen locks (accessOf guards v))
-  choice-declared action.Begin = tt
-  choice-declared action.End = tt
+  choice-declared a = subst Declared (sym (operation-chosen guards locks c a)) (declared-chosen locks (operationOf guards a))
 
 -- The pass of a reducible recording.
 pub reducible-pass : (guards ws : List ℕ) → Reducible guards ws → Pass guards 0 start (startJudging fullSets) ws

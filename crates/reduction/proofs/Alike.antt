@@ -6,9 +6,8 @@ use mathlib.Core.List.{List, [], _∷_}
 use Rattle.frame.specs.declared.Lock.{Lock}
 use Rattle.frame.specs.declared.Variable.{Variable}
 use Rattle.frame.specs.declared.Action.{Action}
-use Rattle.frame.specs.declared.Action.the-variants as action
 use Rattle.frame.specs.declared.Frame.{Frame}
-use Rattle.judge.specs.Rules.{accessOf, operationOf}
+use Rattle.judge.specs.Rules.{operationOf}
 use Rattle.judge.specs.declared.Operation.{Operation}
 use Rattle.judge.specs.declared.Operation.the-variants.{Protected, Inferred}
 use Rattle.reduction.proofs.Run.{threadOf, Run, begin, put, owners, deeper, mark, onto, commitPlace, keyOf, keyed}
@@ -29,16 +28,6 @@ alike-inferred v m = record { owner = λ o t. refl; depth = λ d. refl; commit =
 
 pub alike-protected : (m m′ : Lock) → Alike (Protected m) (Protected m′)
 alike-protected m m′ = record { owner = λ o t. refl; depth = λ d. refl; commit = λ d c n. refl }
-
--- It is enough to compare the accesses.
-pub alike-accesses : (guards guards′ : List ℕ) → ((v : Variable) → Alike (accessOf guards v) (accessOf guards′ v)) → (a : Action)
-    → Alike (operationOf guards a) (operationOf guards′ a)
-alike-accesses guards guards′ h (action.Acquire l) = alike-same (operationOf guards (action.Acquire l))
-alike-accesses guards guards′ h (action.Release l) = alike-same (operationOf guards (action.Release l))
-alike-accesses guards guards′ h (action.Read v) = h v
-alike-accesses guards guards′ h (action.Write v) = h v
-alike-accesses guards guards′ h action.Begin = alike-same (operationOf guards action.Begin)
-alike-accesses guards guards′ h action.End = alike-same (operationOf guards action.End)
 
 run-equal : {o o′ : ℕ → ℕ} {d d′ : ℕ} {c c′ : ℕ} (s : Run) (t : ℕ) → o ≡ o′ → d ≡ d′ → c ≡ c′
     → _≡_ {A = Run} (record { owner = o; depth = put (s .depth) t d; committed = put (s .committed) t c })

@@ -10,7 +10,7 @@ use borrow.Author.Tests.{eqb-true, eqb-false, ne-eqb, ltb-true, ltb-false, lt-lt
 use lib.Bits.{bitAnd, and-le-l}
 use lib.Dec.{eqb, ltb}
 use lib.ListN.{length, getD, set, drop, replicate, length-set, length-replicate, getD-replicate}
-use lib.Seq.{getD-set-same, getD-set-other}
+use lib.Seq.{getD-set-same, getD-set-other, getD-drop}
 use Rattle.frame.proofs.Shared.{never}
 use Rattle.frame.specs.Frame.{ObjectInRange, decodeWord}
 use Rattle.frame.proofs.Laws.{decoded-in-range}
@@ -26,21 +26,20 @@ use Rattle.guards.specs.Guards.{guardOf}
 use Rattle.guards.specs.declared.Guard.{Guard}
 use Rattle.guards.specs.declared.Guard.the-variants as guard
 use Rattle.reply.specs.Reply.{refused, reducible, violated}
-use Rattle.reply.specs.declared.Reply.{Reply}
-use Rattle.reply.specs.declared.Reply.the-variants as reply
 use Rattle.reply.specs.declared.Violation.{Violation}
 use Rattle.reply.specs.declared.Verdict.{Verdict}
 use Rattle.reply.specs.declared.Verdict.the-variants as verdict
 use Rattle.soundness.specs.Soundness.{State, stepFrame, start}
 use Rattle.soundness.specs.declared.Outcome.{Outcome}
 use Rattle.soundness.specs.declared.Outcome.the-variants as outcome
-use Rattle.judge.specs.Rules.{Phase, outside, before, after, Judging, judgingOf, Judged, judged, phaseAt, contains, withCommit, committed, acquireIn, unprotectedIn, guardedAccess, operationOf, judgeOperation}
+use Rattle.judge.specs.Rules.{Phase, outside, before, after, Judging, judgingOf, Judged, judged, phaseAt, contains, withCommit, committed, acquireIn, unprotectedIn, guardedAccess, accessOf, operationOf, judgeOperation}
 use Rattle.judge.specs.Held.{heldSet}
 use Rattle.judge.specs.declared.Operation.{Operation}
 use Rattle.judge.specs.declared.Operation.the-variants.{Acquire, Release, Protected, Unprotected, Inferred, Begin, End}
 use Rattle.pass.specs.Pass.{Ended, judgeFrame, judgeFrom, startJudging, allLocks, fullSets, judgement}
 use Rattle.pass.proofs.Judgement.{judgement-pass, judgement-sound}
-use Rattle.verdict.specs.Verdict.{inferredGuards, inferredReply, withTable}
+use Rattle.verdict.specs.Verdict.{inferredGuards, inferredReply}
+use Rattle.verdict.proofs.Laws.{own-table}
 use Rattle.rules.specs.Choice.{Reducible, Choice, choose, InferredIsSomeChoice, InferredVerdictIsSomeChoice}
 use Rattle.rules.proofs.Bits.{and-holds, and-holds-both, not-empty, full-holds, some-lock}
 
@@ -58,17 +57,16 @@ chosen locks (Inferred v) = Protected (lockOf locks (v .0))
 chosen locks Begin = Begin
 chosen locks End = End
 
--- an entry of the rest is the next entry
-getD-next : (l : List ℕ) (x : ℕ) → getD (drop 1 l) x 0 ≡ getD l (suc x) 0
-getD-next [] x = refl
-getD-next (a ∷ l) x = refl
-
 -- a variable's guard is the chosen lock where it is inferred
-choose-at : (guards locks : List ℕ) (x : ℕ) → x < length guards → getD (choose guards locks) x 0 ≡ cond (ltb 64 (getD guards x 0)) (getD locks x 0) (getD guards x 0)
-choose-at [] locks x h = absurd (omega arith)
-choose-at (c ∷ guards) locks zero h = refl
-choose-at (c ∷ guards) locks (suc x) h =
-    choose-at guards (drop 1 locks) x (omega arith) ∙ ap (λ (n : ℕ). cond (ltb 64 (getD guards x 0)) n (getD guards x 0)) (getD-next locks x)
+choose-at : (guards locks : List ℕ) (x : ℕ) → getD (choose guards locks) x 0 ≡ cond (ltb 64 (getD guards x 0)) (getD locks x 0) (getD guards x 0)
+choose-at [] locks x = refl
+choose-at (c ∷ guards) locks zero = refl
+choose-at (c ∷ guards) locks (suc x) =
+    choose-at guards (drop 1 locks) x
+    ∙ ap (λ (n : ℕ). cond (ltb 64 (getD guards x 0)) n (getD guards x 0)) (getD-drop 1 locks x 0 ∙ ap (λ (n : ℕ). getD locks n 0) one-more)
+  where
+    one-more : 1 + x ≡ suc x
+    one-more = omega arith
 
 -- where every guard is inferred, the chosen locks are the guards
 choose-all : (n : ℕ) (locks : List ℕ) → length locks ≡ n → choose (replicate n 65) locks ≡ locks
@@ -78,7 +76,7 @@ choose-all (suc n) [] e = absurd (omega arith)
 choose-all (suc n) (l ∷ locks) e = ap (λ (r : List ℕ). l ∷ r) (choose-all n locks (omega arith))
 
 -- an access under a guard that is replaced where it is inferred is the access under the chosen lock
-pub access-chosen : (locks : List ℕ) (v : Variable) (g : ℕ) → getD locks (v .0) 0 < 64
+access-chosen : (locks : List ℕ) (v : Variable) (g : ℕ) → getD locks (v .0) 0 < 64
     → guardedAccess (guardOf (cond (ltb 64 g) (getD locks (v .0) 0) g)) v ≡ chosen locks (guardedAccess (guardOf g) v)
 access-chosen locks v g s = go (ltb 64 g) refl (ltb g 64) refl (eqb g 64) refl
   where
@@ -92,20 +90,18 @@ access-chosen locks v g s = go (ltb 64 g) refl (ltb g 64) refl (eqb g 64) refl
     go false e false f false k = absurd (eqb-false g 64 k (omega (arith, ltb-false 64 g e, ltb-false g 64 f)))
 
 -- an action through the chosen guards is the operation under the chosen lock
-module _ (guards locks : List ℕ) (long : length guards ≡ 1024) (c : Choice locks) where
-  variable-chosen : (v : Variable) → v .0 < 1024
-      → guardedAccess (guardOf (getD (choose guards locks) (v .0) 0)) v ≡ chosen locks (guardedAccess (guardOf (getD guards (v .0) 0)) v)
-  variable-chosen v h =
-      ap (λ (n : ℕ). guardedAccess (guardOf n) v) (choose-at guards locks (v .0) (omega arith))
-      ∙ access-chosen locks v (getD guards (v .0) 0) (c .small (v .0))
+module _ (guards locks : List ℕ) (c : Choice locks) where
+  variable-chosen : (v : Variable) → accessOf (choose guards locks) v ≡ chosen locks (accessOf guards v)
+  variable-chosen v =
+      ap (λ (n : ℕ). guardedAccess (guardOf n) v) (choose-at guards locks (v .0)) ∙ access-chosen locks v (getD guards (v .0) 0) (c .small (v .0))
 
-  operation-chosen : (a : Action) → ObjectInRange a → operationOf (choose guards locks) a ≡ chosen locks (operationOf guards a)
-  operation-chosen (action.Acquire l) h = refl
-  operation-chosen (action.Release l) h = refl
-  operation-chosen (action.Read v) h = variable-chosen v h
-  operation-chosen (action.Write v) h = variable-chosen v h
-  operation-chosen action.Begin h = refl
-  operation-chosen action.End h = refl
+  pub operation-chosen : (a : Action) → operationOf (choose guards locks) a ≡ chosen locks (operationOf guards a)
+  operation-chosen (action.Acquire l) = refl
+  operation-chosen (action.Release l) = refl
+  operation-chosen (action.Read v) = variable-chosen v
+  operation-chosen (action.Write v) = variable-chosen v
+  operation-chosen action.Begin = refl
+  operation-chosen action.End = refl
 
 -- An operation is one that every choice leaves as it is, or an access under an inferred guard.
 abbrev Plain : Operation → Type 0
@@ -351,7 +347,7 @@ ends-full guards i s j (w ∷ ws) e f =
     let full = stays-full i (g .frame .thread) _ _ j (seen guards (g .frame .action) (decoded-in-range w (g .frame) (g .is) .object)) (g .right) f in
     rw on (ends-full guards (i + 1) _ _ ws (sym (same-reply on) ∙ e) full)
 
-module _ (guards locks : List ℕ) (long : length guards ≡ 1024) (c : Choice locks) (sets : List ℕ) where
+module _ (guards locks : List ℕ) (c : Choice locks) (sets : List ℕ) where
   module _ (i : ℕ) (s : State) (j : Judging) (w : ℕ) (f : Frame) (e : decodeWord w ≡ decoded.Frame f) where
     -- the frame's operation, and what it is under the chosen locks
     frame-seen : Seen (operationOf guards (f .action))
@@ -361,7 +357,7 @@ module _ (guards locks : List ℕ) (long : length guards ≡ 1024) (c : Choice l
         ≡ judgeOperation i (f .thread) (getD (s .depths) (f .thread .0) 0) (heldSet (f .thread .0) (s .owners)) (chosen locks (operationOf guards (f .action))) (withSets sets j)
     frame-chosen =
         ap (λ (o : Operation). judgeOperation i (f .thread) (getD (s .depths) (f .thread .0) 0) (heldSet (f .thread .0) (s .owners)) o (withSets sets j))
-        (operation-chosen guards locks long c (f .action) (decoded-in-range w f e .object))
+        (operation-chosen guards locks c (f .action))
 
     -- a frame that does not go wrong on one side does not on the other
     frame-infers : judgeFrame guards i f s j .verdict ≡ verdict.Reducible → Has locks (judgeFrame guards i f s j .judging .sets)
@@ -462,7 +458,7 @@ inferred-is-some-choice guards ws long = (to, from)
           k .0,
           c,
           same-reply (judgement-pass (choose guards (k .0)) fullSets ws sound)
-              ∙ infers-pass guards (k .0) long c fullSets 0 start (startJudging fullSets) ws run has .1,
+              ∙ infers-pass guards (k .0) c fullSets 0 start (startJudging fullSets) ws run has .1,
         )
 
     from : (locks : List ℕ) × Choice locks × Reducible (choose guards locks) ws → Reducible guards ws
@@ -471,7 +467,7 @@ inferred-is-some-choice guards ws long = (to, from)
         let run : judgeFrom (choose guards locks) 0 start (startJudging fullSets) ws .reply ≡ reducible =
         sym (same-reply (judgement-pass (choose guards locks) fullSets ws sound)) ∙ r in
         same-reply (judgement-pass guards fullSets ws sound)
-        ∙ allows-pass guards locks long c fullSets 0 start (startJudging fullSets) ws run (has-start locks c)
+        ∙ allows-pass guards locks c fullSets 0 start (startJudging fullSets) ws run (has-start locks c)
 
 -- the guards of the inferred verdict are 1,024, and with a choice they are the chosen locks
 inferred-long : length inferredGuards ≡ 1024
@@ -482,15 +478,10 @@ inferred-choose : (locks : List ℕ) → length locks ≡ 1024 → choose inferr
 unfolding inferredGuards
 inferred-choose locks e = choose-all 1024 locks e
 
--- a table of 1,024 entries is not refused
-long-table : (r : Reply) → withTable r 1024 ≡ r
-long-table (reply.Refused x) = refl
-long-table (reply.Judged v) = refl
-
 -- the inferred verdict is the judgement with all guards inferred
 inferred-reply : (ws : List ℕ) → inferredReply ws 1024 ≡ judgement inferredGuards fullSets ws .reply
 unfolding inferredReply
-inferred-reply ws = long-table (judgement inferredGuards fullSets ws .reply)
+inferred-reply ws = sym (own-table (judgement inferredGuards fullSets ws .reply))
 
 -- The same for the inferred verdict: the chosen locks are the declared guards.
 pub inferred-verdict-is-some-choice : InferredVerdictIsSomeChoice
