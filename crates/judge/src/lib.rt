@@ -70,7 +70,8 @@ fn contains(s: u64, l: Lock) -> bool
     (s >> l.0) % 2 == 1
 }
 
-fn begin_mark(d: u8, begin: u32) -> Mark
+// The outermost begin of a thread at depth d, where a block is open.
+pub fn begin_mark(d: u8, begin: u32) -> Mark
     ensures { λ r. ⌜ r ≡ cond (eqb d 0) Mark.Absent (Mark.At begin) ⌝ }
 {
     if d == 0 {

@@ -13,7 +13,7 @@ ghost use Prim.Native.Nat.{_≤_};
 ghost use lib.ListN.{length, drop};
 ghost use Rattle.judge.specs.Rules.{phaseOf};
 ghost use Rattle.serial.specs.Order.{settled};
-ghost use Rattle.serial.specs.Walk.{ownFrame, unitOf, unitStart, walkWords, endPoint, earlier, openBegin, firstOpenFrom};
+ghost use Rattle.serial.specs.Walk.{ownFrame, unitOf, unitStart, walkWords, endPoint, earlier, firstOpenFrom};
 
 // A frame seen by a thread: its own, with the depth after it, or another's.
 pub enum Own {
@@ -136,15 +136,6 @@ fn earlier_of(a: Mark, b: Mark) -> Mark
     Mark::At(x)
 }
 
-fn open_begin(d: u8, begin: u32) -> Mark
-    ensures { λ r. ⌜ r ≡ openBegin d begin ⌝ }
-{
-    if d == 0 {
-        return Mark::Absent;
-    }
-    Mark::At(begin)
-}
-
 // The earliest begin of a block that is open.
 pub fn first_open(m: Marks) -> Mark
     ensures { λ r. ⌜ r ≡ firstOpenFrom 32 0 Mark.Absent (m .depths) (m .begins) ⌝ }
@@ -154,7 +145,7 @@ pub fn first_open(m: Marks) -> Mark
     let mut least = Mark::Absent;
     let mut k: usize = 0;
     while k < 32 {
-        let b = open_begin(depths[k], begins[k]);
+        let b = judge::begin_mark(depths[k], begins[k]);
         least = earlier_of(least, b);
         k += 1;
     }

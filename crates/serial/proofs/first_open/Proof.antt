@@ -18,17 +18,17 @@ abbrev μ-loop : tie.MeasureT-loop
 loop-holds : tie.Need-loop-holds Inv-loop μ-loop
 loop-holds c = (omega arith, refl)
 
-array-read-open-begin : tie.Need-array-read-open-begin Inv-loop μ-loop
-array-read-open-begin c = search needs
+array-read-begin-mark : tie.Need-array-read-begin-mark Inv-loop μ-loop
+array-read-begin-mark c = search needs
 
-mul-open-begin : tie.Need-mul-open-begin Inv-loop μ-loop
-mul-open-begin c = search needs
+mul-begin-mark : tie.Need-mul-begin-mark Inv-loop μ-loop
+mul-begin-mark c = search needs
 
-array-read-open-begin-2 : tie.Need-array-read-open-begin-2 Inv-loop μ-loop
-array-read-open-begin-2 c = search needs
+array-read-begin-mark-2 : tie.Need-array-read-begin-mark-2 Inv-loop μ-loop
+array-read-begin-mark-2 c = search needs
 
-open-begin-requires : tie.Need-open-begin-requires Inv-loop μ-loop
-open-begin-requires c κs = search needs
+begin-mark-requires : tie.Need-begin-mark-requires Inv-loop μ-loop
+begin-mark-requires c κs = search needs
 
 earlier-of-requires : tie.Need-earlier-of-requires Inv-loop μ-loop
 earlier-of-requires c κs = search needs
@@ -42,7 +42,7 @@ loop-less c = search needs
 loop-again : tie.Need-loop-again Inv-loop μ-loop
 loop-again c =
     let l = c .before .before .before .loop in
-    (omega arith, l .inv .1 ∙ open-turn (32 - l .k) (32 - (l .k + 1)) (l .k) (l .least) _ _ (omega arith) ∙ rw (c .earlier-of .ensures, c .before .open-begin .ensures))
+    (omega arith, l .inv .1 ∙ open-turn (32 - l .k) (32 - (l .k + 1)) (l .k) (l .least) _ _ (omega arith) ∙ rw (c .earlier-of .ensures, c .before .begin-mark .ensures))
 
 returns : tie.Need-returns Inv-loop μ-loop
 returns c =
@@ -57,10 +57,10 @@ first-open-spec =
     Inv-loop
     μ-loop
     loop-holds
-    array-read-open-begin
-    mul-open-begin
-    array-read-open-begin-2
-    open-begin-requires
+    array-read-begin-mark
+    mul-begin-mark
+    array-read-begin-mark-2
+    begin-mark-requires
     earlier-of-requires
     add-k
     loop-less
