@@ -1,7 +1,7 @@
 -- Laws of guard lists, in this order: reading line by line; the table's length and codes; that a list is never too long; what an
 -- accepted list says of its text, of the variables that it names and of the others; that no guard of a list is inferred;
 -- which lists are accepted; that line order has no meaning.
-use Prim.Native.Nat.{ℕ, zero, suc, _+_, _*_, _≤_, _<_}
+use Prim.Native.Nat.{ℕ, zero, suc, _+_, _-_, _*_, _≤_, _<_}
 use mathlib.Core.Path.{_≡_, refl, sym, ap, _∙_}
 use mathlib.Core.Bool.{Bool, true, false, cond}
 use mathlib.Core.List.{List, [], _∷_}
@@ -24,6 +24,7 @@ use Rattle.text.proofs.Laws.{Accepted, ends, goes, accepted-length, accepted-li
 use Rattle.guards.specs.Guards.{guardOf, guardVariable, guardLock, lines, refused, guardLine, onGuardLine, guardsFrom, noGuards, guardsRead}
 use Rattle.guards.specs.declared.Guard.{Guard}
 use Rattle.guards.specs.declared.Guard.the-variants.{Locked, Unprotected, Inferred}
+use Rattle.guards.specs.declared.GuardLine.{GuardLine}
 use Rattle.guards.specs.declared.GuardLine.the-variants as guard-line
 use Rattle.guards.specs.declared.GuardsRead.{GuardsRead}
 use Rattle.guards.specs.declared.GuardsReply.the-variants as reply
@@ -43,6 +44,11 @@ module _ (s : List ℕ) (i : ℕ) (g : List ℕ) where
       → guardsFrom k s i g ≡ onGuardLine (guardLine (lineOf s (9 * i))) i g (λ g′. guardsFrom m s (i + 1) g′)
   unfolding guardsFrom
   guards-step k m e h = rw (e, lt-leb (length s) (9 * i) h)
+
+-- one line read: the callees' answers, and how reading goes on
+pub guards-turn : (s : List ℕ) (i : ℕ) (g : List ℕ) {x : GuardsRead} {l : Line} {o : GuardLine} → x ≡ guardsFrom (4096 - i) s i g → i < 4096 → 9 * i < length s
+    → l ≡ lineOf s (9 * i) → o ≡ guardLine l → x ≡ onGuardLine o i g (λ g′. guardsFrom (4096 - (i + 1)) s (i + 1) g′)
+guards-turn s i g e h more p q = e ∙ guards-step s i g (4096 - i) (4096 - (i + 1)) (omega arith) more ∙ rw (q, p)
 
 same-variable : (v w : Variable) (k l : Lock) → guard-line.Names w l ≡ guard-line.Names v k → v ≡ w
 same-variable v w k l e = cc

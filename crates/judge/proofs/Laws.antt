@@ -1,6 +1,7 @@
 -- Laws of the step of one frame.
 use Prim.Native.Nat.{ℕ, _-_, _*_, _^_, _%_, _<_}
 use mathlib.Core.Path.{_≡_, refl, sym, ap, _∙_}
+use mathlib.Core.Logic.{_⊎_, inl, inr, ⊎-elim}
 use mathlib.Core.Bool.{Bool, true, false, cond, true≢false}
 use native.Mathlib.Omega.{arith}
 use native.Mathlib.Nat.{one-mul}
@@ -62,21 +63,16 @@ module _ (i : ℕ) (t : Thread) (d b c : ℕ) (j : Judging) where
     unprotected-after n = let e = after-is (eqb d 0) refl (eqb c 0) refl in rw (e .0, e .1)
 
   module _ (a : afterCommit d c ≡ false) where
+    else-is : (p : Bool) → eqb d 0 ≡ p → (q : Bool) → eqb c 0 ≡ q → (phaseOf d b c ≡ outside) ⊎ (phaseOf d b c ≡ before b)
+    else-is true e q f = inl (rw e)
+    else-is false e true f = inr (rw (e, f))
+    else-is false e false f = absurd (true≢false (rw (e, f) at a))
+
     pub acquire-else : (l : Lock) → acquireIn (phaseOf d b c) i t l j ≡ judged Reducible j
-    acquire-else l = go (eqb d 0) refl (eqb c 0) refl
-      where
-        go : (p : Bool) → eqb d 0 ≡ p → (q : Bool) → eqb c 0 ≡ q → acquireIn (phaseOf d b c) i t l j ≡ judged Reducible j
-        go true e q f = rw e
-        go false e true f = rw (e, f)
-        go false e false f = absurd (true≢false (rw (e, f) at a))
+    acquire-else l = ⊎-elim (λ e. ap (λ (p : Phase). acquireIn p i t l j) e) (λ e. ap (λ (p : Phase). acquireIn p i t l j) e) (else-is (eqb d 0) refl (eqb c 0) refl)
 
     pub unprotected-else : (n : Judging) → unprotectedIn (phaseOf d b c) i t n j ≡ judged Reducible n
-    unprotected-else n = go (eqb d 0) refl (eqb c 0) refl
-      where
-        go : (p : Bool) → eqb d 0 ≡ p → (q : Bool) → eqb c 0 ≡ q → unprotectedIn (phaseOf d b c) i t n j ≡ judged Reducible n
-        go true e q f = rw e
-        go false e true f = rw (e, f)
-        go false e false f = absurd (true≢false (rw (e, f) at a))
+    unprotected-else n = ⊎-elim (λ e. ap (λ (p : Phase). unprotectedIn p i t n j) e) (λ e. ap (λ (p : Phase). unprotectedIn p i t n j) e) (else-is (eqb d 0) refl (eqb c 0) refl)
 
 -- a frame that goes wrong leaves the state as it was
 abbrev Keeps : Judging → Judged → Type 0

@@ -1,12 +1,12 @@
 -- Invariant: reading the whole list is reading it from line i on with the table of the lines before.
-use Prim.Native.Nat.{_+_, _-_, _≤_}
-use mathlib.Core.Path.{_≡_, refl, sym, ap, _∙_}
+use Prim.Native.Nat.{_-_, _≤_}
+use mathlib.Core.Path.{_≡_, refl, sym, _∙_}
 use native.Mathlib.Omega.{arith}
 use borrow.Author.Needs.{needs}
 use borrow.Author.Tests.{eq-eqb, ne-eqb}
 use lib.ListN.{length, length-set}
-use Rattle.guards.specs.Guards.{guardLine, guardsFrom, guardsRead}
-use Rattle.guards.proofs.Laws.{guards-done, guards-over, guards-step, names-variable}
+use Rattle.guards.specs.Guards.{guardsFrom, guardsRead}
+use Rattle.guards.proofs.Laws.{guards-done, guards-over, guards-turn, names-variable}
 use Rattle.guards.proofs.read_guards.Statement.{statement}
 use Rattle.guards.proofs.read_guards.Tie as tie
 
@@ -52,9 +52,8 @@ returns-2 : tie.Need-returns-2 Inv-loop μ-loop
 returns-2 c =
     let d = c .before .before .before in
     let l = d .before .before .before .before .before .loop in
-    let e = l .inv .2 ∙ guards-step (d .before .before .before .before .before .before .before .before .args .list .now) (l .i) (l .table) (4096 - l .i) (4096 - (l .i + 1)) (omega arith) (d .before .before .before .if1 .left) in
-    let f = ap guardLine (sym (d .before .read-line .ensures)) ∙ sym (d .guard-line .ensures) in
-    sym (e ∙ rw (f ∙ c .before .l .given .1))
+    let e = guards-turn (d .before .before .before .before .before .before .before .before .args .list .now) (l .i) (l .table) (l .inv .2) (omega arith) (d .before .before .before .if1 .left) (d .before .read-line .ensures) (d .guard-line .ensures) in
+    sym (e ∙ rw (c .before .l .given .1))
 
 enum-known-l-2 : tie.Need-enum-known-l-2 Inv-loop μ-loop
 enum-known-l-2 c = search needs
@@ -75,9 +74,8 @@ returns-3 : tie.Need-returns-3 Inv-loop μ-loop
 returns-3 c =
     let d = c .before .before .before in
     let l = d .before .before .before .before .before .before .before .loop in
-    let e = l .inv .2 ∙ guards-step (d .before .before .before .before .before .before .before .before .before .before .args .list .now) (l .i) (l .table) (4096 - l .i) (4096 - (l .i + 1)) (omega arith) (d .before .before .before .before .before .if1 .left) in
-    let f = ap guardLine (sym (d .before .before .before .read-line .ensures)) ∙ sym (d .before .before .guard-line .ensures) in
-    sym (e ∙ rw (f ∙ d .l2 .given .1, ne-eqb _ _ (c .if2 .taken)))
+    let e = guards-turn (d .before .before .before .before .before .before .before .before .before .before .args .list .now) (l .i) (l .table) (l .inv .2) (omega arith) (d .before .before .before .before .before .if1 .left) (d .before .before .before .read-line .ensures) (d .before .before .guard-line .ensures) in
+    sym (e ∙ rw (d .l2 .given .1, ne-eqb _ _ (c .if2 .taken)))
 
 array-write-table : tie.Need-array-write-table Inv-loop μ-loop
 array-write-table c =
@@ -95,9 +93,8 @@ loop-again : tie.Need-loop-again Inv-loop μ-loop
 loop-again c =
     let d = c .before .before .before in
     let l = d .before .before .before .before .before .before .before .loop in
-    let e = l .inv .2 ∙ guards-step (d .before .before .before .before .before .before .before .before .before .before .args .list .now) (l .i) (l .table) (4096 - l .i) (4096 - (l .i + 1)) (omega arith) (d .before .before .before .before .before .if1 .left) in
-    let f = ap guardLine (sym (d .before .before .before .read-line .ensures)) ∙ sym (d .before .before .guard-line .ensures) in
-    (omega arith, simp length-set (l .inv .1), e ∙ rw (f ∙ d .l2 .given .1, eq-eqb _ _ (c .if2 .left)))
+    let e = guards-turn (d .before .before .before .before .before .before .before .before .before .before .args .list .now) (l .i) (l .table) (l .inv .2) (omega arith) (d .before .before .before .before .before .if1 .left) (d .before .before .before .read-line .ensures) (d .before .before .guard-line .ensures) in
+    (omega arith, simp length-set (l .inv .1), e ∙ rw (d .l2 .given .1, eq-eqb _ _ (c .if2 .left)))
 
 returns-4 : tie.Need-returns-4 Inv-loop μ-loop
 returns-4 c =
