@@ -128,9 +128,10 @@ pub extern "C" fn trace_inferred(words: &[u32], sets: &mut [u64], line: &mut [u8
     ensures sets { λ k. ⌜ now (sets .exit) ≡ setsAfter (now (words .entry)) (now (sets .entry)) (length (now (line .entry))) ⌝ }
     ensures contents { λ k. ⌜ now (line .exit) ≡ lineAfter (inferredReply (now (words .entry)) (length (now (sets .entry)))) (length (now (words .entry))) (now (line .entry)) ⌝ }
 {
-    if line.len() < LINE {
+    let room = line.len();
+    if room < LINE {
         return SHORT;
     }
-    let r = verdict::inferred(words, sets);
-    answer(line, r, (words.len() % 4294967296) as u32)
+    let judged = verdict::inferred(words, sets);
+    answer(line, judged, (words.len() % 4294967296) as u32)
 }

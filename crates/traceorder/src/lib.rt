@@ -57,6 +57,6 @@ pub extern "C" fn trace_serial_inferred(words: &[u32], out: &mut [u32]) -> u64
     ensures reply { λ n. ⌜ n ≡ orderAnswer (inferredOrder (now (words .entry)) (length (now (out .entry)))) ⌝ }
     ensures contents { λ n. ⌜ now (out .exit) ≡ inferredOut (now (words .entry)) (now (out .entry)) ⌝ }
 {
-    let q = order::inferred(words, out);
-    pack_order(q)
+    let r = order::inferred(words, out);
+    pack_order(r)
 }
