@@ -18,14 +18,15 @@ use Rattle.serial.specs.Walk.{endPoint, firstOpen}
 use Rattle.order.specs.Order.{refused, reducibleReply, irreducible, orderReply, orderOut, outAfter}
 use Rattle.order.specs.declared.OrderReply.the-variants as order
 
+-- a reply that passes the test
+pub passes : (r : Reply) → reducibleReply r ≡ true → r ≡ reducible
+passes (reply.Refused x) z = never (cc)
+passes (reply.Judged verdict.Reducible) z = refl
+passes (reply.Judged (verdict.Violated v)) z = never (cc)
+
 -- a reply that the code's test lets pass
 pub says-reducible : (q r : Reply) (b : Bool) → q ≡ r → b ≡ not (reducibleReply q) → b ≡ false → r ≡ reducible
-says-reducible q r b e t f = sym e ∙ go q (not-false (reducibleReply q) (sym t ∙ f))
-  where
-    go : (x : Reply) → reducibleReply x ≡ true → x ≡ reducible
-    go (reply.Refused x) z = never (cc)
-    go (reply.Judged verdict.Reducible) z = refl
-    go (reply.Judged (verdict.Violated v)) z = never (cc)
+says-reducible q r b e t f = sym e ∙ passes q (not-false (reducibleReply q) (sym t ∙ f))
 
 -- and one that it holds up
 pub says-irreducible : (q r : Reply) (b : Bool) → q ≡ r → b ≡ not (reducibleReply q) → b ≡ true → reducibleReply r ≡ false

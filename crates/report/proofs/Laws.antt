@@ -27,7 +27,7 @@ use Rattle.demand.proofs.Demand.{order-length, closed-open}
 use Rattle.order.specs.Order.{reducibleReply, irreducible, onList, orderReply, orderOut, outAfter, declaredOrder, declaredOut, inferredOrder, inferredOut}
 use Rattle.order.specs.declared.OrderReply.{OrderReply}
 use Rattle.order.specs.declared.OrderReply.the-variants as order
-use Rattle.order.proofs.Laws.{says-reducible, not-reducible, still-open, no-room, is-written, is-written-out}
+use Rattle.order.proofs.Laws.{passes, not-reducible, still-open, no-room, is-written, is-written-out}
 use Rattle.report.specs.Report.{WordsRead, WordsOrdered}
 use Rattle.report.specs.declared.Opened.{Opened}
 use Rattle.report.specs.declared.Opened.the-variants as opened
@@ -48,13 +48,13 @@ order-ordered g ws out long = go (reducibleReply (judgement g fullSets ws .reply
     go : (b : Bool) → reducibleReply (judgement g fullSets ws .reply) ≡ b → (m : Mark) → firstOpen (endPoint g ws) ≡ m
         → (d : Bool) → ltb (length out) (length ws) ≡ d → WordsOrdered (orderReply g ws (length out)) (serialWords g ws) (orderOut g ws out)
     go false e m o d t = rw (not-reducible g ws out e) (irreducible-ordered (judgement g fullSets ws .reply) (serialWords g ws) (orderOut g ws out) e)
-    go true e (mark.At b) o d t = rw (still-open g ws out e b o) tt
-    go true e mark.Absent o true t = rw (no-room g ws out e o (ltb-true (length out) (length ws) t)) tt
+    go true e (mark.At b) o d t = rw (still-open g ws out (passes (judgement g fullSets ws .reply) e) b o) tt
+    go true e mark.Absent o true t = rw (no-room g ws out (passes (judgement g fullSets ws .reply) e) o (ltb-true (length out) (length ws) t)) tt
     go true e mark.Absent o false t =
         let room = ltb-false (length out) (length ws) t in
-        let r = says-reducible (judgement g fullSets ws .reply) e in
+        let r = passes (judgement g fullSets ws .reply) e in
         let n : length (serialWords g ws) ≡ length ws = order-length g ws long r (closed-open g ws r o) in
-        rw (is-written g ws out e o room, is-written-out g ws out e o room) (
+        rw (is-written g ws out r o room, is-written-out g ws out r o room) (
           rw (length-append (serialWords g ws) (drop (length ws) out)) (omega (arith, n)),
           take-at (serialWords g ws) (drop (length ws) out) (length ws) n,
         )
