@@ -1,4 +1,4 @@
--- Laws of written text: nothing, one byte, and one text behind another.
+-- Laws of written text: nothing, one byte, one text behind another, and a text that there is room for.
 use Prim.Native.Nat.{ℕ, zero, suc, _+_, _/_, _%_, _<_, _≤_}
 use mathlib.Core.Path.{_≡_, refl, sym, ap, _∙_}
 use mathlib.Core.Bool.{Bool, true, false}
@@ -6,8 +6,8 @@ use mathlib.Core.List.{List, [], _∷_, _++_}
 use native.Mathlib.Omega.{arith}
 use native.Mathlib.Numerals.{add-one}
 use lib.Dec.{ltb}
-use lib.ListN.{length, set, drop, length-set}
-use lib.Seq.{drop-cons, drop-set-lt, getD-set-same, append-snoc, lt-length-set}
+use lib.ListN.{length, set, take, drop, length-set}
+use lib.Seq.{drop-cons, drop-set-lt, getD-set-same, append-snoc, lt-length-set, sets, sets-eq}
 use borrow.Author.Tests.{lt-ltb, le-ltb, ltb-true, ltb-false, ne-eqb}
 use Rattle.output.specs.Output.{after, behind, written, decimalDigits}
 
@@ -92,3 +92,25 @@ behind-within n at (c ∷ t) h = behind-within n (after n at) t (after-within n 
 
 pub put-within : {b : List ℕ} {at : ℕ} {t b' : List ℕ} {p : ℕ} → Put b at t b' p → at ≤ length b → p ≤ length b'
 put-within {b} {at} {t} x h = rw (x .place, x .contents, length-written b at t) (behind-within (length b) at t h)
+
+-- where there is room for a text, the place is behind its last byte
+pub behind-room : (n at : ℕ) (t : List ℕ) → at + length t ≤ n → behind n at t ≡ at + length t
+unfolding behind
+behind-room n at [] h = omega arith
+behind-room n at (c ∷ t) h = rw (after-room n at (omega arith)) (behind-room n (at + 1) t (omega arith) ∙ omega arith)
+
+written-sets : (b : List ℕ) (at : ℕ) (t : List ℕ) → at + length t ≤ length b → written b at t ≡ sets b at t
+unfolding written
+written-sets b at [] h = refl
+written-sets b at (c ∷ t) h =
+    rw (after-room (length b) at (omega arith), add-one at) (written-sets (set b at c) (suc at) t (omega (arith, length-set b at c)))
+
+-- and the text stands there whole, between what stood before and behind
+pub written-room : (b : List ℕ) (at : ℕ) (t : List ℕ) → at + length t ≤ length b → written b at t ≡ take at b ++ t ++ drop (at + length t) b
+written-room b at t h = written-sets b at t h ∙ sets-eq t b at h
+
+-- a text that is no longer than the buffer, written from its start
+pub put-fits : (b t : List ℕ) → length t ≤ length b → (behind (length b) 0 t ≡ length t) × (written b 0 t ≡ t ++ drop (length t) b)
+put-fits b t h =
+    let z : 0 + length t ≡ length t = omega arith in
+    (behind-room (length b) 0 t (omega arith) ∙ z, rw z at (written-room b 0 t (omega arith)))
