@@ -1,2 +1,2 @@
--- What a reader must believe of answers in words. Their laws are in proofs/Laws.
+-- What a reader must believe of answers in words. How long they can be is proved in proofs/Lengths.
 pub mod Explain

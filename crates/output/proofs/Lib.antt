@@ -1,2 +1,3 @@
 -- Laws of written text that crates above cite.
 pub mod Laws
+pub mod Lengths

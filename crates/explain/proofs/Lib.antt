@@ -1,0 +1,2 @@
+-- Laws of answers in words that crates above cite.
+pub mod Lengths

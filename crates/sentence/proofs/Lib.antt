@@ -1,0 +1,2 @@
+-- Laws of sentences that crates above cite.
+pub mod Lengths
