@@ -9,6 +9,7 @@ use lib.Dec.{ltb}
 use lib.ListN.{length, take, drop, length-append}
 use lib.Seq.{take-at}
 use Rattle.frame.proofs.Shared.{never}
+use Rattle.frame.specs.declared.Refused.{Refused}
 use Rattle.text.specs.Text.{wordsTo}
 use Rattle.guards.specs.Guards.{guardsRead}
 use Rattle.guards.specs.declared.GuardsReply.{GuardsReply}
@@ -27,7 +28,7 @@ use Rattle.demand.proofs.Demand.{order-length, closed-open}
 use Rattle.order.specs.Order.{reducibleReply, irreducible, onList, orderReply, orderOut, outAfter, declaredOrder, declaredOut, inferredOrder, inferredOut}
 use Rattle.order.specs.declared.OrderReply.{OrderReply}
 use Rattle.order.specs.declared.OrderReply.the-variants as order
-use Rattle.order.proofs.Laws.{passes, not-reducible, still-open, no-room, is-written, is-written-out}
+use Rattle.order.proofs.Laws.{passes, not-reducible, still-open, no-room, is-written}
 use Rattle.report.specs.Report.{WordsRead, WordsOrdered}
 use Rattle.report.specs.declared.Opened.{Opened}
 use Rattle.report.specs.declared.Opened.the-variants as opened
@@ -36,28 +37,31 @@ use Rattle.report.specs.declared.Opened.the-variants as opened
 pub words-read : (o : Opened) (n : ℕ) (s ws : List ℕ) → o ≡ opened.Frames n → WordsRead o s ws → (n ≤ length ws) × (take n ws ≡ wordsTo s n)
 words-read o n s ws e w = rw e at w
 
-irreducible-ordered : (r : Reply) (serial out : List ℕ) → reducibleReply r ≡ false → WordsOrdered (irreducible r) serial out
-irreducible-ordered (reply.Refused x) serial out e = tt
-irreducible-ordered (reply.Judged verdict.Reducible) serial out e = let z : _≡_ {A = ℕ} 0 1 = cc in never z
-irreducible-ordered (reply.Judged (verdict.Violated v)) serial out e = tt
+irreducible-refused : (P : OrderReply → Type 0) → ((x : Refused) → P (order.Refused x)) → (r : Reply) → reducibleReply r ≡ false → P (irreducible r)
+irreducible-refused P refused (reply.Refused x) e = refused x
+irreducible-refused P refused (reply.Judged verdict.Reducible) e = let z : _≡_ {A = ℕ} 0 1 = cc in never z
+irreducible-refused P refused (reply.Judged (verdict.Violated v)) e = refused _
 
--- a serial order that is written, under a table of guards
-pub order-ordered : (g ws out : List ℕ) → length g ≡ 1024 → WordsOrdered (orderReply g ws (length out)) (serialWords g ws) (orderOut g ws out)
-order-ordered g ws out long = go (reducibleReply (judgement g fullSets ws .reply)) refl (firstOpen (endPoint g ws)) refl (ltb (length out) (length ws)) refl
+-- under a table of guards a serial order is refused, or written with as many words as the recording has
+pub order-cases : (g ws out : List ℕ) → length g ≡ 1024 → (P : OrderReply → Type 0) → ((x : Refused) → P (order.Refused x))
+    → (length (serialWords g ws) ≡ length ws → P (order.Written (length ws))) → P (orderReply g ws (length out))
+order-cases g ws out long P refused written = go (reducibleReply (judgement g fullSets ws .reply)) refl (firstOpen (endPoint g ws)) refl (ltb (length out) (length ws)) refl
   where
     go : (b : Bool) → reducibleReply (judgement g fullSets ws .reply) ≡ b → (m : Mark) → firstOpen (endPoint g ws) ≡ m
-        → (d : Bool) → ltb (length out) (length ws) ≡ d → WordsOrdered (orderReply g ws (length out)) (serialWords g ws) (orderOut g ws out)
-    go false e m o d t = rw (not-reducible g ws out e) (irreducible-ordered (judgement g fullSets ws .reply) (serialWords g ws) (orderOut g ws out) e)
-    go true e (mark.At b) o d t = rw (still-open g ws out (passes (judgement g fullSets ws .reply) e) b o) tt
-    go true e mark.Absent o true t = rw (no-room g ws out (passes (judgement g fullSets ws .reply) e) o (ltb-true (length out) (length ws) t)) tt
+        → (d : Bool) → ltb (length out) (length ws) ≡ d → P (orderReply g ws (length out))
+    go false e m o d t = rw (not-reducible g ws out e) (irreducible-refused P refused (judgement g fullSets ws .reply) e)
+    go true e (mark.At b) o d t = rw (still-open g ws out (passes (judgement g fullSets ws .reply) e) b o) (refused _)
+    go true e mark.Absent o true t = rw (no-room g ws out (passes (judgement g fullSets ws .reply) e) o (ltb-true (length out) (length ws) t)) (refused _)
     go true e mark.Absent o false t =
-        let room = ltb-false (length out) (length ws) t in
         let r = passes (judgement g fullSets ws .reply) e in
-        let n : length (serialWords g ws) ≡ length ws = order-length g ws long r (closed-open g ws r o) in
-        rw (is-written g ws out r o room, is-written-out g ws out r o room) (
-          rw (length-append (serialWords g ws) (drop (length ws) out)) (omega (arith, n)),
-          take-at (serialWords g ws) (drop (length ws) out) (length ws) n,
-        )
+        rw (is-written g ws out r o (ltb-false (length out) (length ws) t)) (written (order-length g ws long r (closed-open g ws r o)))
+
+-- the words of a serial order that is written
+pub order-ordered : (g ws out : List ℕ) → length g ≡ 1024 → WordsOrdered (orderReply g ws (length out)) (serialWords g ws) (orderOut g ws out)
+unfolding orderOut
+order-ordered g ws out long =
+    order-cases g ws out long (λ q. WordsOrdered q (serialWords g ws) (outAfter q (serialWords g ws) out)) (λ x. tt)
+    (λ n. (rw (length-append (serialWords g ws) (drop (length ws) out)) (omega (arith, n)), take-at (serialWords g ws) (drop (length ws) out) (length ws) n))
 
 -- with declared guards
 pub declared-ordered : (list ws out : List ℕ)

@@ -1,2 +1,3 @@
 -- Laws of the tool's answers.
 pub mod Laws
+pub mod Fits
