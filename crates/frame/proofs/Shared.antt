@@ -1,6 +1,6 @@
 -- Laws that have nothing to do with frames and that several crates above cite.
 use Prim.Native.Nat.{ℕ, zero, suc, _+_, _≤_, _<_}
-use mathlib.Core.Path.{_≡_, refl, sym}
+use mathlib.Core.Path.{_≡_, refl, sym, _∙_}
 use mathlib.Core.Bool.{Bool, true, false, cond}
 use mathlib.Core.List.{List, [], _∷_, _++_}
 use native.Mathlib.Omega.{arith}
@@ -8,7 +8,7 @@ use native.Mathlib.Numerals.{add-one}
 use borrow.Author.Tests.{eqb-true, eqb-false}
 use lib.Dec.{eqb}
 use lib.ListN.{length, getD, set, take, drop, replicate}
-use lib.Seq.{drop-cons, set-at, append-snoc, take-suc, length-take-le}
+use lib.Seq.{drop-cons, drop-set-lt, getD-set-same, lt-length-set, set-at, append-snoc, take-suc, length-take-le}
 
 -- what follows where `cc` has joined two constructors
 pub never : {A : Type 0} → _≡_ {A = ℕ} 0 1 → A
@@ -32,6 +32,11 @@ pub getD-filled : (n i d : ℕ) → getD (replicate n d) i d ≡ d
 getD-filled zero i d = refl
 getD-filled (suc n) zero d = refl
 getD-filled (suc n) (suc i) d = getD-filled n i d
+
+-- what stands from a stored entry on
+pub drop-stored : (l : List ℕ) (i x : ℕ) → i < length l → drop i (set l i x) ≡ x ∷ drop (suc i) l
+drop-stored l i x h =
+    drop-cons (set l i x) i 0 (lt-length-set l i x h) ∙ rw (getD-set-same l i x 0 h, drop-set-lt (suc i) l i x (omega arith))
 
 -- one more entry written after the i at the front
 pub front-next : (p s : List ℕ) (i x : ℕ) → length p ≡ i → i < length s → set (p ++ drop i s) i x ≡ p ++ (x ∷ []) ++ drop (i + 1) s

@@ -6,8 +6,9 @@ use native.Mathlib.Omega.{arith}
 use native.Mathlib.Numerals.{add-one}
 use native.Mathlib.Nat.{add-zero}
 use lib.ListN.{length, replicate, take, drop, set, length-append, take-append-drop}
-use lib.Seq.{drop-cons, take-set-le, drop-set-lt, getD-set-same, append-snoc, lt-length-set, take-at, drop-at, drop-drop}
+use lib.Seq.{take-set-le, append-snoc, take-at, drop-at, drop-drop}
 use Rattle.reply.specs.declared.Reply.{Reply}
+use Rattle.frame.proofs.Shared.{drop-stored}
 use Rattle.line.specs.declared.Fields.{Fields}
 use Rattle.line.specs.Line.{byteOf, digits, pasted, replyFields, placeWidth, fieldsLine, verdictLine, wordLine}
 
@@ -36,9 +37,7 @@ pub pasted-digit : (s : List ℕ) (at k v b : ℕ) → at + k < length s → b �
 unfolding digits
 pasted-digit s at k v b h e =
     let a : take at (set s (at + k) b) ≡ take at s = take-set-le at s (at + k) b (omega arith) in
-    let d : drop (at + k) (set s (at + k) b) ≡ b ∷ drop (suc (at + k)) s =
-    drop-cons (set s (at + k) b) (at + k) 0 (lt-length-set s (at + k) b h)
-    ∙ rw (getD-set-same s (at + k) b 0 h, drop-set-lt (suc (at + k)) s (at + k) b (omega arith)) in
+    let d : drop (at + k) (set s (at + k) b) ≡ b ∷ drop (suc (at + k)) s = drop-stored s (at + k) b h in
     let m : at + (k + 1) ≡ suc (at + k) = omega arith in
     rw (a, d, m, add-one k, e, append-snoc (digits k (v / 16)) (byteOf (v % 16)) (drop (suc (at + k)) s))
 

@@ -7,8 +7,9 @@ use native.Mathlib.Omega.{arith}
 use native.Mathlib.Numerals.{add-one}
 use lib.Dec.{ltb}
 use lib.ListN.{length, set, take, drop, length-set}
-use lib.Seq.{drop-cons, drop-set-lt, getD-set-same, append-snoc, lt-length-set, sets, sets-eq}
+use lib.Seq.{append-snoc, sets, sets-eq}
 use borrow.Author.Tests.{lt-ltb, le-ltb, ltb-true, ltb-false, ne-eqb}
+use Rattle.frame.proofs.Shared.{drop-stored}
 use Rattle.output.specs.Output.{after, behind, written, decimalDigits}
 
 -- writing t into b from `at` on leaves b' and the place p
@@ -69,9 +70,7 @@ pub digit-stored : (d : List ℕ) (j v : ℕ) → j < length d → 0 < v
 unfolding decimalDigits
 digit-stored d j v h p =
     let x = v % 10 + 48 in
-    let e : drop j (set d j x) ≡ x ∷ drop (suc j) d =
-    drop-cons (set d j x) j 0 (lt-length-set d j x h) ∙ rw (getD-set-same d j x 0 h, drop-set-lt (suc j) d j x (omega arith)) in
-    rw (e, add-one j, ne-eqb v 0 (λ (z : v ≡ 0). absurd (omega arith))) (append-snoc (decimalDigits j (v / 10)) x (drop (suc j) d))
+    rw (drop-stored d j x h, add-one j, ne-eqb v 0 (λ (z : v ≡ 0). absurd (omega arith))) (append-snoc (decimalDigits j (v / 10)) x (drop (suc j) d))
 
 -- no digits are left of 0
 pub digits-none : (k v : ℕ) → v ≤ 0 → decimalDigits k v ≡ []

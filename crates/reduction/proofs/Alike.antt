@@ -12,7 +12,7 @@ use Rattle.judge.specs.declared.Operation.{Operation}
 use Rattle.judge.specs.declared.Operation.the-variants.{Protected, Inferred}
 use Rattle.reduction.proofs.Run.{threadOf, Run, begin, put, owners, deeper, mark, onto, commitPlace, keyOf, keyed}
 use Rattle.reduction.proofs.Serial.{serialOrder}
-use Rattle.reduction.proofs.Units.{openFrom, walk}
+use Rattle.reduction.proofs.Units.{walk}
 
 -- Two operations that do the same to locks, depths and commits.
 pub record Alike (k k′ : Operation) : Type 0 where
@@ -25,9 +25,6 @@ alike-same k = record { owner = λ o t. refl; depth = λ d. refl; commit = λ d 
 
 pub alike-inferred : (v : Variable) (m : Lock) → Alike (Inferred v) (Protected m)
 alike-inferred v m = record { owner = λ o t. refl; depth = λ d. refl; commit = λ d c n. refl }
-
-pub alike-protected : (m m′ : Lock) → Alike (Protected m) (Protected m′)
-alike-protected m m′ = record { owner = λ o t. refl; depth = λ d. refl; commit = λ d c n. refl }
 
 run-equal : {o o′ : ℕ → ℕ} {d d′ : ℕ} {c c′ : ℕ} (s : Run) (t : ℕ) → o ≡ o′ → d ≡ d′ → c ≡ c′
     → _≡_ {A = Run} (record { owner = o; depth = put (s .depth) t d; committed = put (s .committed) t c })
@@ -55,8 +52,3 @@ module _ (guards guards′ : List ℕ) (alike : (a : Action) → Alike (operatio
   -- The serial order is the same.
   pub serialOrder-alike : (l : List Frame) → serialOrder guards l ≡ serialOrder guards′ l
   serialOrder-alike l = cc (keyed-alike begin 0 l)
-
-  -- The walk is the same.
-  pub walk-alike : (s : Run) (o : ℕ → List Frame) (n : ℕ) (l : List Frame) → walk guards s o n l ≡ walk guards′ s o n l
-  walk-alike s o n [] = refl
-  walk-alike s o n (f ∷ l) = cc (onto-alike s n f, walk-alike (onto guards′ s n f) (openFrom s o f l) (suc n) l)
