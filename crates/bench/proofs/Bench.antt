@@ -9,11 +9,10 @@ use Rattle.pass.specs.Pass.{judgeFrom, startJudging, fullSets, judgement}
 use Rattle.verdict.specs.Verdict.{declaredReply, inferredGuards, inferredReply}
 use Rattle.line.specs.Line.{byteOf, digits}
 use Rattle.trace.specs.Trace.{textJudged}
-use Rattle.exchange.specs.Noted.{own}
-use Rattle.equal.specs.Equal.{agree, sameFrom}
+use Rattle.exchange.specs.Pull.{pull, pullAll}
 use Rattle.serial.specs.Order.{commitFrom, commitsFrom, unitAt, unitsFrom}
 use Rattle.bench.specs.Bench.{AllRowsHold}
 
 pub all-rows-hold : AllRowsHold
-unfolding decodeParts digitOf digitsValue lineOf wordAt scanFrom wordsTo guardsFrom stepAction checkFrom start judgeOperation judgeFrom startJudging fullSets judgement declaredReply inferredGuards inferredReply byteOf digits textJudged own agree sameFrom commitFrom commitsFrom unitAt unitsFrom
+unfolding decodeParts digitOf digitsValue lineOf wordAt scanFrom wordsTo guardsFrom stepAction checkFrom start judgeOperation judgeFrom startJudging fullSets judgement declaredReply inferredGuards inferredReply byteOf digits textJudged pull pullAll commitFrom commitsFrom unitAt unitsFrom
 all-rows-hold = refl

@@ -1,4 +1,3 @@
--- That equality is what exchanges make of it: Counters, counting in arrays is counting; Walk, the turns of the loops; Exchanges, the claims.
-pub mod Counters
-pub mod Walk
+-- That equality is what exchanges make of it: Exchanges, the claims; Walk, marking in arrays, and the turns of the loops.
 pub mod Exchanges
+pub mod Walk

@@ -1,11 +1,12 @@
 -- The words of a sound recording decode, so its frames stand for them: each is in its ranges, and its word is the recording's.
 use Prim.Native.Nat.{ℕ, zero, suc, _+_, _<_}
-use mathlib.Core.Path.{_≡_, sym, _∙_}
-use mathlib.Core.List.{List, [], _∷_}
+use mathlib.Core.Path.{_≡_, refl, sym, _∙_, subst}
+use mathlib.Core.Bool.{Bool, true}
+use mathlib.Core.List.{List, [], _∷_, map}
 use native.Mathlib.Omega.{arith}
 use lib.ListN.{length, getD}
 use Rattle.frame.proofs.Shared.{never}
-use Rattle.frame.proofs.Laws.{decoded-in-range, encode-decode}
+use Rattle.frame.proofs.Laws.{decoded-in-range, encode-decode, decode-encode}
 use Rattle.frame.specs.Frame.{decodeWord, encodeFrame, InRange}
 use Rattle.frame.specs.declared.Frame.{Frame}
 use Rattle.frame.specs.declared.Refusal.{Refusal}
@@ -13,7 +14,8 @@ use Rattle.frame.specs.declared.Decoded.the-variants as decoded
 use Rattle.soundness.proofs.Laws.{check-short, sound-fits, sound-first}
 use Rattle.soundness.specs.Soundness.{State, checkFrom, checkReply, start}
 use Rattle.soundness.specs.declared.CheckReply.the-variants as check
-use Rattle.exchange.specs.Exchange.{frameOf}
+use Rattle.exchange.specs.Independent.{independent}
+use Rattle.exchange.specs.Exchange.{Exchange, here, later, Exchanges, done, step, frameOf, framesOf}
 
 -- The word decodes, as its frame.
 abbrev pub Decodes : ℕ → Type 0
@@ -53,3 +55,43 @@ sound-decodes ws e = decodes-at ws (sound-all-decode ws e)
 -- no word of a sound recording fails to decode
 pub sound-not-bad : {A : Type 0} {b : Refusal} (ws : List ℕ) → checkReply ws ≡ check.Sound → (i : ℕ) → i < length ws → decodeWord (getD ws i 0) ≡ decoded.Bad b → A
 sound-not-bad {A} {b} ws e i h d = let z : decoded.Bad b ≡ decoded.Frame (frameOf (getD ws i 0)) = sym d ∙ sound-decodes ws e i h in never (cc)
+
+-- Two words whose frames are independent.
+abbrev pub apart : ℕ → ℕ → Bool
+apart w v = independent (frameOf w) (frameOf v)
+
+exchange-frames : {l r : List ℕ} → Exchange apart l r → Exchange independent (framesOf l) (framesOf r)
+exchange-frames (here i) = here i
+exchange-frames (later e) = later (exchange-frames e)
+
+-- exchanges of words are exchanges of their frames
+pub words-frames : {l r : List ℕ} → Exchanges apart l r → Exchanges independent (framesOf l) (framesOf r)
+words-frames done = done
+words-frames (step e x) = step (exchange-frames e) (words-frames x)
+
+abbrev AllInRange : List Frame → Type 0
+AllInRange [] = Unit {0}
+AllInRange (f ∷ fs) = InRange f × AllInRange fs
+
+all-in-range : (ws : List ℕ) → AllDecode ws → AllInRange (framesOf ws)
+all-in-range [] d = tt
+all-in-range (w ∷ ws) d = (frame-in-range w (d .0), all-in-range ws (d .1))
+
+frames-back : (ws : List ℕ) → AllDecode ws → map encodeFrame (framesOf ws) ≡ ws
+frames-back [] d = refl
+frames-back (w ∷ ws) d = λ i. frame-word w (d .0) i ∷ frames-back ws (d .1) i
+
+exchange-words : {l r : List Frame} → AllInRange l → Exchange independent l r → Exchange apart (map encodeFrame l) (map encodeFrame r) × AllInRange r
+exchange-words p (here {f = f} {g = g} i) =
+    let h : apart (encodeFrame f) (encodeFrame g) ≡ true = rw (decode-encode f (p .0), decode-encode g (p .1 .0)) i in
+    (here h, (p .1 .0, (p .0, p .1 .1)))
+exchange-words p (later e) = let q = exchange-words (p .1) e in (later (q .0), (p .0, q .1))
+
+exchanges-words : {l r : List Frame} → AllInRange l → Exchanges independent l r → Exchanges apart (map encodeFrame l) (map encodeFrame r)
+exchanges-words p done = done
+exchanges-words p (step e x) = let q = exchange-words p e in step (q .0) (exchanges-words (q .1) x)
+
+-- and where the words decode, the other way round
+pub frames-words : (l r : List ℕ) → AllDecode l → AllDecode r → Exchanges independent (framesOf l) (framesOf r) → Exchanges apart l r
+frames-words l r p q x =
+    subst (λ z. Exchanges apart z r) (frames-back l p) (subst (λ z. Exchanges apart (map encodeFrame (framesOf l)) z) (frames-back r q) (exchanges-words (all-in-range l p) x))

@@ -1,7 +1,7 @@
 -- Laws of independent frames: clashes and independence are symmetric, and so are the exchanges of a recording's frames.
 use Prim.Native.Nat.{ℕ}
 use mathlib.Core.Path.{_≡_, refl, sym, _∙_}
-use mathlib.Core.Bool.{Bool, true, false}
+use mathlib.Core.Bool.{Bool, true, false, not, _&&_}
 use mathlib.Core.List.{List}
 use lib.Dec.{eqb}
 use borrow.Author.Tests.{eqb-true, eqb-false, eq-eqb, ne-eqb}
@@ -10,7 +10,6 @@ use Rattle.frame.specs.declared.Frame.{Frame}
 use Rattle.exchange.specs.Independent.{Named, lock, variable, neither, named, sameNamed, clash, independent}
 use Rattle.exchange.specs.Exchange.{Exchanges}
 use Rattle.exchange.proofs.Exchange.{symmetric}
-use Rattle.exchange.proofs.Same.{apart-sym}
 
 eqb-sym : (m k : ℕ) → eqb m k ≡ eqb k m
 eqb-sym m k = go (eqb m k) refl
@@ -34,7 +33,7 @@ pub clash-sym : (a b : Action) → clash a b ≡ clash b a
 clash-sym a b = same-named-sym (named a) (named b)
 
 pub independent-sym : (f g : Frame) → independent f g ≡ true → independent g f ≡ true
-independent-sym = apart-sym (λ f. f .thread .0) (λ f g. clash (f .action) (g .action)) (λ f g. clash-sym (f .action) (g .action))
+independent-sym f g e = (λ i. not (eqb-sym (g .thread .0) (f .thread .0) i) && not (clash-sym (g .action) (f .action) i)) ∙ e
 
 pub frames-symmetric : {l r : List Frame} → Exchanges independent l r → Exchanges independent r l
 frames-symmetric = symmetric independent independent-sym

@@ -1,6 +1,7 @@
--- Laws that crates above cite: Exchange, of exchanges over any elements; Same, that comparing threads decides them; Independent, of
+-- Laws that crates above cite: Exchange, of exchanges over any elements; Pull, that pulling elements out decides them; Independent, of
 -- independent frames; Frames, of the frames of a sound recording.
 pub mod Exchange
-pub mod Same
+pub mod Pull
 pub mod Independent
 pub mod Frames
+pub mod Match

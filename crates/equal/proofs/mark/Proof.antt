@@ -1,82 +1,98 @@
--- Invariant: what is unmarked was so before, and has none of the first i frames.
-use Prim.Native.Nat.{_-_, _≤_}
-use mathlib.Core.Path.{_≡_, sym, _∙_}
+-- Each arm by what the action is.
+use mathlib.Core.Path.{refl}
 use native.Mathlib.Omega.{arith}
 use borrow.Author.Needs.{needs}
-use lib.ListN.{length}
-use Rattle.frame.proofs.Laws.{decoded-in-range}
-use Rattle.exchange.proofs.Frames.{sound-not-bad}
-use Rattle.equal.specs.Walk.{Marked}
-use Rattle.equal.proofs.Walk.{mark-none, mark-one}
 use Rattle.equal.proofs.mark.Statement.{statement}
 use Rattle.equal.proofs.mark.Tie as tie
 
-abbrev Inv-loop : tie.InvT-loop
-Inv-loop words marks₀ i₀ marks i = (i ≤ length words) × Marked i words marks₀ marks
+enum-known-a : tie.Need-enum-known-a
+enum-known-a c = search needs
 
-abbrev μ-loop : tie.MeasureT-loop
-μ-loop words marks₀ i₀ marks i = length words - i
+cast-store : tie.Need-cast-store
+cast-store c = search needs
 
-loop-holds : tie.Need-loop-holds Inv-loop μ-loop
-loop-holds c = (omega arith, mark-none _ _ (c .before .pre .1))
+store-requires : tie.Need-store-requires
+store-requires c κs = omega (arith, rw (c .before .before .before .a .given .1) at (c .before .before .before .before .before .pre))
 
-mul-decode : tie.Need-mul-decode Inv-loop μ-loop
-mul-decode c = search needs
+enum-known-a-2 : tie.Need-enum-known-a-2
+enum-known-a-2 c = search needs
 
-shared-slice-read-decode : tie.Need-shared-slice-read-decode Inv-loop μ-loop
-shared-slice-read-decode c = search needs
+cast-store-2 : tie.Need-cast-store-2
+cast-store-2 c = search needs
 
-decode-requires : tie.Need-decode-requires Inv-loop μ-loop
-decode-requires c κs = search needs
+store-requires-2 : tie.Need-store-requires-2
+store-requires-2 c κs =
+    omega (arith, rw (c .before .before .before .a2 .given .1) at (c .before .before .before .before .before .pre))
 
-enum-known-d : tie.Need-enum-known-d Inv-loop μ-loop
-enum-known-d c = search needs
+enum-known-a-3 : tie.Need-enum-known-a-3
+enum-known-a-3 c = search needs
 
-enum-told : tie.Need-enum-told Inv-loop μ-loop
+cast-store-3 : tie.Need-cast-store-3
+cast-store-3 c = search needs
+
+store-requires-3 : tie.Need-store-requires-3
+store-requires-3 c κs =
+    omega (arith, rw (c .before .before .before .a3 .given .1) at (c .before .before .before .before .before .pre))
+
+enum-known-a-4 : tie.Need-enum-known-a-4
+enum-known-a-4 c = search needs
+
+cast-store-4 : tie.Need-cast-store-4
+cast-store-4 c = search needs
+
+store-requires-4 : tie.Need-store-requires-4
+store-requires-4 c κs =
+    omega (arith, rw (c .before .before .before .a4 .given .1) at (c .before .before .before .before .before .pre))
+
+enum-told : tie.Need-enum-told
 enum-told c = search needs
 
-returns : tie.Need-returns Inv-loop μ-loop
+enum-told-2 : tie.Need-enum-told-2
+enum-told-2 c = search needs
+
+returns : tie.Need-returns
 returns c =
-    sound-not-bad (c .before .before .before .before .before .before .before .args .words .now) (c .before .before .before .before .before .before .before .pre .0) (c .before .before .before .before .before .loop .i) (c .before .before .before .before .loop-test .taken) (sym (c .before .before .decode .ensures) ∙ c .enum-told .given .1)
+    rw (c .before .before .before .before .a .given .1) (record { below = c .store .ensures .below; marked = rw (c .store .ensures .stored) })
 
-cast-k : tie.Need-cast-k Inv-loop μ-loop
-cast-k c = search needs
-
-element-write-marks : tie.Need-element-write-marks Inv-loop μ-loop
-element-write-marks c =
-    omega (arith, decoded-in-range _ _ (sym (c .before .before .before .before .decode .ensures) ∙ c .before .before .d .given .1) .thread)
-
-add-i : tie.Need-add-i Inv-loop μ-loop
-add-i c = search needs
-
-loop-less : tie.Need-loop-less Inv-loop μ-loop
-loop-less c = search needs
-
-loop-again : tie.Need-loop-again Inv-loop μ-loop
-loop-again c =
-    (omega arith, mark-one _ (sym (c .before .before .before .before .decode .ensures) ∙ c .before .before .d .given .1) (c .before .before .before .before .before .before .before .loop .inv .1))
-
-returns-2 : tie.Need-returns-2 Inv-loop μ-loop
+returns-2 : tie.Need-returns-2
 returns-2 c =
-    let e : c .before .loop .i ≡ length (c .before .before .before .args .words .now) = omega arith in
-    rw e at (c .before .loop .inv .1)
+    rw (c .before .before .before .before .a2 .given .1) (record { below = c .store2 .ensures .below; marked = rw (c .store2 .ensures .stored) })
+
+returns-3 : tie.Need-returns-3
+returns-3 c =
+    rw (c .before .before .before .before .a3 .given .1) (record { below = c .store3 .ensures .below; marked = rw (c .store3 .ensures .stored) })
+
+returns-4 : tie.Need-returns-4
+returns-4 c =
+    rw (c .before .before .before .before .a4 .given .1) (record { below = c .store4 .ensures .below; marked = rw (c .store4 .ensures .stored) })
+
+returns-5 : tie.Need-returns-5
+returns-5 c = rw (c .enum-told .given .1) (record { below = refl; marked = refl })
+
+returns-6 : tie.Need-returns-6
+returns-6 c = rw (c .enum-told2 .given .1) (record { below = refl; marked = refl })
 
 pub mark-spec : {M : Type 1} → statement M
 mark-spec =
     tie.close
     (tie.spec
-    Inv-loop
-    μ-loop
-    loop-holds
-    mul-decode
-    shared-slice-read-decode
-    decode-requires
-    enum-known-d
+    enum-known-a
+    cast-store
+    store-requires
+    enum-known-a-2
+    cast-store-2
+    store-requires-2
+    enum-known-a-3
+    cast-store-3
+    store-requires-3
+    enum-known-a-4
+    cast-store-4
+    store-requires-4
     enum-told
+    enum-told-2
     returns
-    cast-k
-    element-write-marks
-    add-i
-    loop-less
-    loop-again
-    returns-2)
+    returns-2
+    returns-3
+    returns-4
+    returns-5
+    returns-6)

@@ -1,68 +1,119 @@
--- Invariant: the answer is that of the threads from t on.
-use Prim.Native.Nat.{suc, _+_, _-_, _≤_}
-use mathlib.Core.Path.{_≡_, refl, sym, _∙_}
-use mathlib.Core.Bool.{true}
-use mathlib.Core.Logic.{⊎-elim}
+-- Invariant: `Walking` of proofs/Walk.
+use Prim.Native.Nat.{_-_}
+use mathlib.Core.Path.{sym, _∙_}
 use native.Mathlib.Omega.{arith}
 use borrow.Author.Needs.{needs}
-use borrow.Author.Tests.{not-true, not-false, eq-eqb, ne-eqb}
-use Rattle.equal.specs.Equal.{sameThread, sameFrom, equalWords}
-use Rattle.equal.proofs.Walk.{same-step, same-stop, same-end, absent-same}
+use borrow.Author.Tests.{ltb-true, ltb-false, not-true, not-false}
+use lib.ListN.{length}
+use Rattle.frame.proofs.Laws.{decoded-in-range}
+use Rattle.soundness.proofs.Laws.{sound-fits}
+use Rattle.exchange.proofs.Exchange.{exchanges-length}
+use Rattle.exchange.proofs.Frames.{apart, sound-not-bad}
+use Rattle.equal.specs.Walk.{lastsOf}
+use Rattle.equal.proofs.Exchanges.{not-equal}
+use Rattle.equal.proofs.Walk.{Walking, walk-start, walk-end, missing, words-differ, too-early, go-on}
 use Rattle.equal.proofs.same.Statement.{statement}
 use Rattle.equal.proofs.same.Tie as tie
 
 abbrev Inv-loop : tie.InvT-loop
-Inv-loop left right marks t₀ t = (t ≤ 32) × (equalWords left right ≡ sameFrom (32 - t) t left right)
+Inv-loop left right next₀ locks₀ variables₀ i₀ next locks variables i = Walking left right i next (lastsOf locks variables)
 
 abbrev μ-loop : tie.MeasureT-loop
-μ-loop left right marks t₀ t = 32 - t
+μ-loop left right next₀ locks₀ variables₀ i₀ next locks variables i = length left - i
 
 returns : tie.Need-returns Inv-loop μ-loop
-returns c = rw (ne-eqb _ _ (c .if1 .taken))
-
-mark-requires : tie.Need-mark-requires Inv-loop μ-loop
-mark-requires c κs = (c .before .before .before .before .pre .0, refl)
-
-mark-requires-2 : tie.Need-mark-requires-2 Inv-loop μ-loop
-mark-requires-2 c κs = (c .before .before .before .before .before .before .pre .1, c .before .mark .ensures .size)
+returns c = sym (not-equal _ _ (λ x. c .if1 .taken (exchanges-length apart x)))
 
 loop-holds : tie.Need-loop-holds Inv-loop μ-loop
-loop-holds c = (omega arith, rw (eq-eqb _ _ (c .before .before .before .before .if1 .left)))
+loop-holds c = walk-start _ _ (c .if1 .left)
 
-cast-k : tie.Need-cast-k Inv-loop μ-loop
-cast-k c = search needs
+mul-w : tie.Need-mul-w Inv-loop μ-loop
+mul-w c = search needs
 
-array-read-if2 : tie.Need-array-read-if2 Inv-loop μ-loop
-array-read-if2 c = search needs
+shared-slice-read-w : tie.Need-shared-slice-read-w Inv-loop μ-loop
+shared-slice-read-w c = search needs
 
-same-thread-requires : tie.Need-same-thread-requires Inv-loop μ-loop
-same-thread-requires c κs = c .before .before .before .before .before .before .before .before .before .before .pre
+decode-requires : tie.Need-decode-requires Inv-loop μ-loop
+decode-requires c κs = search needs
+
+enum-known-d : tie.Need-enum-known-d Inv-loop μ-loop
+enum-known-d c = search needs
+
+enum-told : tie.Need-enum-told Inv-loop μ-loop
+enum-told c = search needs
 
 returns-2 : tie.Need-returns-2 Inv-loop μ-loop
 returns-2 c =
-    let o = c .before .before .before .before .loop in
-    let q : 32 - o .t ≡ suc (32 - (o .t + 1)) = omega arith in
-    sym (o .inv .1 ∙ same-stop _ _ (o .t) _ _ q (sym (c .before .same-thread .ensures) ∙ not-true _ (c .if3 .taken)))
+    sound-not-bad (c .before .before .before .before .before .before .before .before .before .args .left .now) (c .before .before .before .before .before .before .before .before .before .pre .0) (c .before .before .before .before .before .loop .i) (c .before .before .before .before .loop-test .taken) (sym (c .before .before .decode .ensures) ∙ c .enum-told .given .1)
 
-add-t : tie.Need-add-t Inv-loop μ-loop
-add-t c = search needs
+cast-t : tie.Need-cast-t Inv-loop μ-loop
+cast-t c = search needs
+
+mul-find : tie.Need-mul-find Inv-loop μ-loop
+mul-find c = search needs
+
+array-read-find : tie.Need-array-read-find Inv-loop μ-loop
+array-read-find c =
+    decoded-in-range _ _ (sym (c .before .before .before .before .decode .ensures) ∙ c .before .before .d .given .1) .thread
+
+cast-find : tie.Need-cast-find Inv-loop μ-loop
+cast-find c = search needs
+
+find-requires : tie.Need-find-requires Inv-loop μ-loop
+find-requires c κs =
+    (c .before .before .before .before .before .before .before .before .before .before .before .pre .1, c .before .before .before .before .before .before .before .loop .inv .starts _)
+
+returns-3 : tie.Need-returns-3 Inv-loop μ-loop
+returns-3 c =
+    sym (missing (c .before .before .before .before .before .before .before .before .before .loop .inv) (c .before .before .before .before .before .before .before .before .loop-test .taken) (sym (c .before .before .before .before .before .before .decode .ensures) ∙ c .before .before .before .before .d .given .1) (c .before .find .ensures) (c .if2 .taken))
+
+mul-if3 : tie.Need-mul-if3 Inv-loop μ-loop
+mul-if3 c = search needs
+
+shared-slice-read-if3 : tie.Need-shared-slice-read-if3 Inv-loop μ-loop
+shared-slice-read-if3 c = search needs
+
+returns-4 : tie.Need-returns-4 Inv-loop μ-loop
+returns-4 c =
+    sym (words-differ (c .before .before .before .before .before .before .before .before .before .before .before .loop .inv) (c .before .before .before .before .before .before .before .before .before .before .loop-test .taken) (sym (c .before .before .before .before .before .before .before .before .decode .ensures) ∙ c .before .before .before .before .before .before .d .given .1) (c .before .before .before .find .ensures) (c .if3 .taken))
+
+add-q : tie.Need-add-q Inv-loop μ-loop
+add-q c = search needs
+
+cast-q : tie.Need-cast-q Inv-loop μ-loop
+cast-q c =
+    omega (arith, c .before .before .before .find .ensures .within, sound-fits (c .before .before .before .before .before .before .before .before .before .before .before .before .before .before .before .args .right .now) (c .before .before .before .before .before .before .before .before .before .before .before .before .before .before .before .pre .1))
+
+mark-requires : tie.Need-mark-requires Inv-loop μ-loop
+mark-requires c κs =
+    decoded-in-range _ _ (sym (c .before .before .before .before .before .before .before .before .before .before .decode .ensures) ∙ c .before .before .before .before .before .before .before .before .d .given .1) .object
+
+returns-5 : tie.Need-returns-5 Inv-loop μ-loop
+returns-5 c =
+    sym (too-early (c .before .before .before .before .before .before .before .before .before .before .before .before .before .before .before .loop .inv) (c .before .before .before .before .before .before .before .before .before .before .before .before .before .before .loop-test .taken) (sym (c .before .before .before .before .before .before .before .before .before .before .before .before .decode .ensures) ∙ c .before .before .before .before .before .before .before .before .before .before .d .given .1) (c .before .before .before .before .before .before .before .find .ensures) (ltb-false _ _ (sym (c .before .mark .ensures .below) ∙ not-true _ (c .if4 .taken))))
+
+add-next : tie.Need-add-next Inv-loop μ-loop
+add-next c = search needs
+
+mul-next : tie.Need-mul-next Inv-loop μ-loop
+mul-next c = search needs
+
+array-write-next : tie.Need-array-write-next Inv-loop μ-loop
+array-write-next c =
+    decoded-in-range _ _ (sym (c .before .before .before .before .before .before .before .before .before .before .before .before .decode .ensures) ∙ c .before .before .before .before .before .before .before .before .before .before .d .given .1) .thread
+
+add-i : tie.Need-add-i Inv-loop μ-loop
+add-i c = search needs
 
 loop-less : tie.Need-loop-less Inv-loop μ-loop
 loop-less c = search needs
 
 loop-again : tie.Need-loop-again Inv-loop μ-loop
 loop-again c =
-    let o = c .before .before .loop in
-    let a = c .before .before .before .before .before .before .before .before .before .before .args in
-    let q : 32 - o .t ≡ suc (32 - (o .t + 1)) = omega arith in
-    let e : sameThread (o .t) (a .left .now) (a .right .now) ≡ true = ⊎-elim (λ w. sym (w .1 .ensures) ∙ not-false _ (w .2 .left))
-    (λ w. absent-same (o .t) (c .before .before .before .before .before .mark .ensures) (c .before .before .before .mark2 .ensures) (w .left)) (c .if2 .came) in
-    (omega arith, o .inv .1 ∙ same-step _ _ (o .t) _ _ q e)
+    go-on (c .before .before .before .before .before .before .before .before .before .before .before .before .before .before .before .loop .inv) (c .before .before .before .before .before .before .before .before .before .before .before .before .before .before .loop-test .taken) (sym (c .before .before .before .before .before .before .before .before .before .before .before .before .decode .ensures) ∙ c .before .before .before .before .before .before .before .before .before .before .d .given .1) (c .before .before .before .before .before .before .before .find .ensures) (c .before .before .before .before .before .before .if2 .left) (c .before .before .before .before .if3 .left) (ltb-true _ _ (sym (c .before .mark .ensures .below) ∙ not-false _ (c .if4 .left))) (c .before .mark .ensures .marked)
 
-returns-3 : tie.Need-returns-3 Inv-loop μ-loop
-returns-3 c =
-    let o = c .before .loop in
-    sym (o .inv .1 ∙ same-end _ _ (o .t) (32 - o .t) (omega arith))
+returns-6 : tie.Need-returns-6 Inv-loop μ-loop
+returns-6 c = sym (walk-end (c .before .loop .inv) (c .loop-test .left))
 
 pub same-spec : {M : Type 1} → statement M
 same-spec =
@@ -71,14 +122,30 @@ same-spec =
     Inv-loop
     μ-loop
     returns
-    mark-requires
-    mark-requires-2
     loop-holds
-    cast-k
-    array-read-if2
-    same-thread-requires
+    mul-w
+    shared-slice-read-w
+    decode-requires
+    enum-known-d
+    enum-told
     returns-2
-    add-t
+    cast-t
+    mul-find
+    array-read-find
+    cast-find
+    find-requires
+    returns-3
+    mul-if3
+    shared-slice-read-if3
+    returns-4
+    add-q
+    cast-q
+    mark-requires
+    returns-5
+    add-next
+    mul-next
+    array-write-next
+    add-i
     loop-less
     loop-again
-    returns-3)
+    returns-6)
