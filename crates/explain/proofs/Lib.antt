@@ -1,2 +1,3 @@
 -- Laws of answers in words that crates above cite.
 pub mod Lengths
+pub mod Lines

@@ -1,9 +1,11 @@
 -- Answers in words, in the manner of 000, figure 2: where the block began, where and by what it committed, which frame goes wrong, and why.
 -- What the marks of a sentence stand for is said by `piece` (crate sentence).
-use Prim.Native.Nat.{ℕ, _/_, _%_}
+use Prim.Native.Nat.{ℕ, zero, suc, _/_, _%_}
 use Prim.Native.String.{String}
-use mathlib.Core.List.{List, _++_}
-use lib.ListN.{getD}
+use mathlib.Core.Bool.{cond}
+use mathlib.Core.List.{List, [], _∷_, _++_}
+use lib.ListN.{getD, take, drop}
+use lib.Dec.{eqb}
 use Rattle.frame.specs.declared.Refusal.{Refusal}
 use Rattle.frame.specs.declared.Refusal.the-variants as refusal
 use Rattle.frame.specs.declared.Refused.{Refused}
@@ -20,6 +22,16 @@ use Rattle.output.specs.Output.{bytes}
 use Rattle.sentence.specs.Sentence.{filled}
 use Rattle.sentence.specs.declared.Source.{Source}
 use Rattle.sentence.specs.declared.Facts.{Facts}
+
+-- The length of a text's first line, with its line end.
+unfoldable pub lineLength : List ℕ → ℕ
+lineLength [] = 0
+lineLength (c ∷ t) = cond (eqb c 10) 1 (suc (lineLength t))
+
+-- Line n of a text, counted from 0.
+unfoldable pub lineOf : ℕ → List ℕ → List ℕ
+lineOf zero t = take (lineLength t) t
+lineOf (suc n) t = lineOf n (drop (lineLength t) t)
 
 abbrev pub refusalSentence : Refusal → String
 refusalSentence refusal.Line =

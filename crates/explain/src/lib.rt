@@ -10,121 +10,73 @@ use sentence::Facts;
 use sentence::Source;
 use sentence::say;
 ghost use mathlib.Core.Path.{_≡_};
-ghost use lib.ListN.{length, getD};
+ghost use Prim.Native.Nat.{_+_, _≤_};
+ghost use lib.ListN.{length, getD, drop};
 ghost use Rattle.output.specs.Output.{bytes, behind, written};
 ghost use Rattle.sentence.specs.Sentence.{filled};
-ghost use Rattle.explain.specs.Explain.{refusalSentence, kindSentence, blockSentence, whySentence, placeOf};
+ghost use Rattle.explain.specs.Explain.{lineLength, lineOf, refusalSentence, kindSentence, blockSentence, whySentence, placeOf};
 ghost use Rattle.explain.specs.Explain.{placeFacts, violationFacts, refusalText, violationText, explanation};
+
+// The place behind the line of a text that starts at a place.
+fn line_end(text: &[u8], start: usize) -> usize
+    requires { ⌜ start ≤ length (now text) ⌝ }
+    ensures { λ e. ⌜ e ≡ start + lineLength (drop start (now (text .entry))) ⌝ }
+{
+    let mut e = start;
+    while e < text.len() {
+        let c = text[e];
+        e += 1;
+        if c == 10 {
+            return e;
+        }
+    }
+    e
+}
+
+// Line n of a text, counted from 0.
+fn say_line(out: &mut [u8], at: usize, text: &[u8], n: u8, f: Facts) -> usize
+    ensures place { λ r. ⌜ r ≡ behind (length (now (out .entry))) at (filled f (lineOf n (now (text .entry)))) ⌝ }
+    ensures contents { λ r. ⌜ now (out .exit) ≡ written (now (out .entry)) at (filled f (lineOf n (now (text .entry)))) ⌝ }
+{
+    let mut start = 0;
+    let mut k = n;
+    while k > 0 {
+        start = line_end(text, start);
+        k -= 1;
+    }
+    let e = line_end(text, start);
+    say(out, at, &text[start..e], f)
+}
 
 // The sentence of a refusal.
 fn say_refusal(out: &mut [u8], at: usize, reason: Refusal, f: Facts) -> usize
     ensures place { λ r. ⌜ r ≡ behind (length (now (out .entry))) at (filled f (bytes (refusalSentence reason))) ⌝ }
     ensures contents { λ r. ⌜ now (out .exit) ≡ written (now (out .entry)) at (filled f (bytes (refusalSentence reason))) ⌝ }
 {
-    match reason {
-        Refusal::Line => say(
-            out,
-            at,
-            b"refused: number 1, @ of % is not eight digits 0-9 A-F and one LF; write it so, without blanks, lower case or CR, and end the last line.\n",
-            f,
-        ),
-        Refusal::TooLong => say(
-            out,
-            at,
-            b"refused: number 2, % has more than 4096 lines; cut it down to 4096.\n",
-            f,
-        ),
-        Refusal::WordBuffer => say(
-            out,
-            at,
-            b"refused: number 3, the word buffer has fewer than # words; lend one for each line.\n",
-            f,
-        ),
-        Refusal::Operation => say(
-            out,
-            at,
-            b"refused: number 4, @ of % has an operation other than 01 to 06; mend its digits 1 and 2.\n",
-            f,
-        ),
-        Refusal::Thread => say(
-            out,
-            at,
-            b"refused: number 5, @ of % has a thread above 1F; mend its digits 3 and 4.\n",
-            f,
-        ),
-        Refusal::Object => say(
-            out,
-            at,
-            b"refused: number 6, @ of % has an object out of range; locks go up to 003F, variables up to 03FF, and a begin or an end has 0000.\n",
-            f,
-        ),
-        Refusal::LockTaken => say(
-            out,
-            at,
-            b"refused: number 7, @ of %, * by thread &, takes a lock that is held already; release it before this line.\n",
-            f,
-        ),
-        Refusal::LockNotHeld => say(
-            out,
-            at,
-            b"refused: number 8, @ of %, * by thread &, lets go a lock that this thread does not hold; acquire it first or drop the line.\n",
-            f,
-        ),
-        Refusal::TooDeep => say(
-            out,
-            at,
-            b"refused: number 9, @ of % is a begin inside 15 open blocks of thread &; nest at most 15.\n",
-            f,
-        ),
-        Refusal::NoOpenBlock => say(
-            out,
-            at,
-            b"refused: number 10, @ of % is an end where thread & has no open block; add its begin or drop the line.\n",
-            f,
-        ),
-        Refusal::GuardRange => say(
-            out,
-            at,
-            b"refused: number 11, @ of % names a variable above 03FF or a lock above 003F; mend the number.\n",
-            f,
-        ),
-        Refusal::GuardRepeated => say(
-            out,
-            at,
-            b"refused: number 12, @ of % names a variable that an earlier line names; keep one of the two.\n",
-            f,
-        ),
-        Refusal::Irreducible => say(
-            out,
-            at,
-            b"refused: number 13, % is not reducible, so there is no serial order; @ goes wrong, and explain says why.\n",
-            f,
-        ),
-        Refusal::OpenBlock => say(
-            out,
-            at,
-            b"refused: number 14, the block that begins at @ of % is open at the end; add its end.\n",
-            f,
-        ),
-        Refusal::OutputBuffer => say(
-            out,
-            at,
-            b"refused: number 15, the output has fewer than # words; lend one for each frame.\n",
-            f,
-        ),
-        Refusal::SetTable => say(
-            out,
-            at,
-            b"refused: number 16, the table of candidate sets has fewer than 1024 entries; lend 1024.\n",
-            f,
-        ),
-        Refusal::LineBuffer => say(
-            out,
-            at,
-            b"refused: number 17, the line buffer has fewer than 33 bytes; lend 33.\n",
-            f,
-        ),
-    }
+    let n = frame::refusal_number(reason);
+    say_line(
+        out,
+        at,
+        b"refused: number 1, @ of % is not eight digits 0-9 A-F and one LF; write it so, without blanks, lower case or CR, and end the last line.\n\
+            refused: number 2, % has more than 4096 lines; cut it down to 4096.\n\
+            refused: number 3, the word buffer has fewer than # words; lend one for each line.\n\
+            refused: number 4, @ of % has an operation other than 01 to 06; mend its digits 1 and 2.\n\
+            refused: number 5, @ of % has a thread above 1F; mend its digits 3 and 4.\n\
+            refused: number 6, @ of % has an object out of range; locks go up to 003F, variables up to 03FF, and a begin or an end has 0000.\n\
+            refused: number 7, @ of %, * by thread &, takes a lock that is held already; release it before this line.\n\
+            refused: number 8, @ of %, * by thread &, lets go a lock that this thread does not hold; acquire it first or drop the line.\n\
+            refused: number 9, @ of % is a begin inside 15 open blocks of thread &; nest at most 15.\n\
+            refused: number 10, @ of % is an end where thread & has no open block; add its begin or drop the line.\n\
+            refused: number 11, @ of % names a variable above 03FF or a lock above 003F; mend the number.\n\
+            refused: number 12, @ of % names a variable that an earlier line names; keep one of the two.\n\
+            refused: number 13, % is not reducible, so there is no serial order; @ goes wrong, and explain says why.\n\
+            refused: number 14, the block that begins at @ of % is open at the end; add its end.\n\
+            refused: number 15, the output has fewer than # words; lend one for each frame.\n\
+            refused: number 16, the table of candidate sets has fewer than 1024 entries; lend 1024.\n\
+            refused: number 17, the line buffer has fewer than 33 bytes; lend 33.\n",
+        n - 1,
+        f,
+    )
 }
 
 // What happened.
@@ -132,32 +84,17 @@ fn say_kind(out: &mut [u8], at: usize, kind: Kind, f: Facts) -> usize
     ensures place { λ r. ⌜ r ≡ behind (length (now (out .entry))) at (filled f (bytes (kindSentence kind))) ⌝ }
     ensures contents { λ r. ⌜ now (out .exit) ≡ written (now (out .entry)) at (filled f (bytes (kindSentence kind))) ⌝ }
 {
-    match kind {
-        Kind::GuardNotHeld => say(
-            out,
-            at,
-            b"violation: kind 1, guard not held, by thread &.\n",
-            f,
-        ),
-        Kind::UnprotectedAfterCommit => say(
-            out,
-            at,
-            b"violation: kind 2, unprotected access after commit, by thread &.\n",
-            f,
-        ),
-        Kind::AcquireAfterCommit => say(
-            out,
-            at,
-            b"violation: kind 3, acquire after commit, by thread &.\n",
-            f,
-        ),
-        Kind::SetEmptied => say(
-            out,
-            at,
-            b"violation: kind 4, candidate set emptied, by thread &.\n",
-            f,
-        ),
-    }
+    let n = reply::kind_number(kind);
+    say_line(
+        out,
+        at,
+        b"violation: kind 1, guard not held, by thread &.\n\
+            violation: kind 2, unprotected access after commit, by thread &.\n\
+            violation: kind 3, acquire after commit, by thread &.\n\
+            violation: kind 4, candidate set emptied, by thread &.\n",
+        n - 1,
+        f,
+    )
 }
 
 // The thread's block.
@@ -189,32 +126,17 @@ fn say_why(out: &mut [u8], at: usize, kind: Kind, f: Facts) -> usize
     ensures place { λ r. ⌜ r ≡ behind (length (now (out .entry))) at (filled f (bytes (whySentence kind))) ⌝ }
     ensures contents { λ r. ⌜ now (out .exit) ≡ written (now (out .entry)) at (filled f (bytes (whySentence kind))) ⌝ }
 {
-    match kind {
-        Kind::GuardNotHeld => say(
-            out,
-            at,
-            b"  The guard of variable $ is lock ~, and thread & does not hold it: another thread may access the variable at the same time.\n",
-            f,
-        ),
-        Kind::UnprotectedAfterCommit => say(
-            out,
-            at,
-            b"  Variable $ has no guard: another thread may change it, or what the block accessed before, between these lines.\n",
-            f,
-        ),
-        Kind::AcquireAfterCommit => say(
-            out,
-            at,
-            b"  A block takes no lock after its commit: between these lines another thread may change what the block has read or written.\n",
-            f,
-        ),
-        Kind::SetEmptied => say(
-            out,
-            at,
-            b"  Locks left that may guard variable $: ~. Thread & holds none of them, so no one lock guards every access of the variable.\n",
-            f,
-        ),
-    }
+    let n = reply::kind_number(kind);
+    say_line(
+        out,
+        at,
+        b"  The guard of variable $ is lock ~, and thread & does not hold it: another thread may access the variable at the same time.\n\
+            \x20 Variable $ has no guard: another thread may change it, or what the block accessed before, between these lines.\n\
+            \x20 A block takes no lock after its commit: between these lines another thread may change what the block has read or written.\n\
+            \x20 Locks left that may guard variable $: ~. Thread & holds none of them, so no one lock guards every access of the variable.\n",
+        n - 1,
+        f,
+    )
 }
 
 fn say_violation(out: &mut [u8], at: usize, f: Facts, v: Violation) -> usize

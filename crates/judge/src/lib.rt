@@ -149,46 +149,31 @@ pub fn judge(
     ensures locks { λ r. ⌜ now (held .exit) ≡ holding r (thread .0) op (now (held .entry)) ⌝ }
 {
     let k = thread.0 as usize;
+    let h = held[k];
+    let b = begins[k];
+    let c = commits[k];
     match op {
         Operation::Acquire(l) => {
-            let c = commits[k];
             if after_commit(d, c) {
-                return wrong(
-                    Kind::AcquireAfterCommit,
-                    i,
-                    thread,
-                    d,
-                    begins[k],
-                    c,
-                    single(l),
-                );
+                return wrong(Kind::AcquireAfterCommit, i, thread, d, b, c, single(l));
             }
-            held[k] = held[k] + single(l);
+            held[k] = h + single(l);
             Verdict::Reducible
         }
         Operation::Release(l) => {
-            held[k] = held[k] - single(l);
-            commits[k] = commit_at(d, commits[k], i);
+            held[k] = h - single(l);
+            commits[k] = commit_at(d, c, i);
             Verdict::Reducible
         }
         Operation::Protected(m) => {
-            if contains(held[k], m) {
+            if contains(h, m) {
                 return Verdict::Reducible;
             }
-            wrong(
-                Kind::GuardNotHeld,
-                i,
-                thread,
-                d,
-                begins[k],
-                commits[k],
-                single(m),
-            )
+            wrong(Kind::GuardNotHeld, i, thread, d, b, c, single(m))
         }
         Operation::Unprotected => {
-            let c = commits[k];
             if after_commit(d, c) {
-                return wrong(Kind::UnprotectedAfterCommit, i, thread, d, begins[k], c, 0);
+                return wrong(Kind::UnprotectedAfterCommit, i, thread, d, b, c, 0);
             }
             commits[k] = commit_at(d, c, i);
             Verdict::Reducible
@@ -196,9 +181,9 @@ pub fn judge(
         Operation::Inferred(v) => {
             let n = v.0 as usize;
             let s = sets[n];
-            let x = s & held[k];
+            let x = s & h;
             if x == 0 {
-                return wrong(Kind::SetEmptied, i, thread, d, begins[k], commits[k], s);
+                return wrong(Kind::SetEmptied, i, thread, d, b, c, s);
             }
             sets[n] = x;
             Verdict::Reducible

@@ -31,13 +31,14 @@ use Rattle.output.specs.Output.{bytes}
 use Rattle.output.proofs.Laws.{put-fits}
 use Rattle.sentence.specs.declared.Source.the-variants as source
 use Rattle.explain.proofs.Lengths.{refusal-fits, explanation-fits}
-use Rattle.report.specs.Report.{openedRead, listReply, onList, opening, replyUnder, verdictOpened, verdictReport, explainOpened, explainReport}
-use Rattle.report.specs.Report.{linesOf, orderUnder, guardsUnder, orderText, serialOpened, serialReport}
-use Rattle.report.specs.Report.{equalText, rightOpened, leftChecked, leftOpened, equalReport}
+use Rattle.opening.specs.Opening.{openedRead, listReply, onList, opening, replyUnder}
+use Rattle.answers.specs.Answers.{verdictOpened, verdictReport, explainOpened, explainReport}
+use Rattle.serialreport.specs.SerialReport.{linesOf, orderUnder, guardsUnder, orderText, serialOpened, serialReport}
+use Rattle.equalreport.specs.EqualReport.{equalText, rightOpened, leftChecked, leftOpened, equalReport}
 use Rattle.report.specs.Fits.{Whole, ReportsFit}
-use Rattle.report.specs.declared.Opened.{Opened}
-use Rattle.report.specs.declared.Opened.the-variants as opened
-use Rattle.report.proofs.Laws.{order-cases}
+use Rattle.opening.specs.declared.Opened.{Opened}
+use Rattle.opening.specs.declared.Opened.the-variants as opened
+use Rattle.serialreport.proofs.Laws.{order-cases}
 
 pub verdict-fits : (declared : Bool) (list s : List ℕ) → length (verdictReport declared list s) ≤ 36864
 verdict-fits declared list s = go (opening declared list s)

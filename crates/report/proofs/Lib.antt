@@ -1,3 +1,2 @@
--- Laws of the tool's answers.
-pub mod Laws
+-- The tool's answers fit.
 pub mod Fits

@@ -5,7 +5,9 @@ use mathlib.Core.Bool.{Bool}
 use mathlib.Core.List.{List, _++_}
 use lib.ListN.{length, drop}
 use Rattle.output.specs.Output.{behind, written}
-use Rattle.report.specs.Report.{verdictReport, explainReport, serialReport, equalReport}
+use Rattle.answers.specs.Answers.{verdictReport, explainReport}
+use Rattle.serialreport.specs.SerialReport.{serialReport}
+use Rattle.equalreport.specs.EqualReport.{equalReport}
 
 -- A text written into a buffer from its start stands there whole: the place is behind its last byte, and what stood behind is left.
 abbrev pub Whole : List ℕ → List ℕ → Type 0

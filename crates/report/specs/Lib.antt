@@ -1,3 +1,2 @@
--- What a reader must believe of the tool's answers. Their laws are in proofs/Laws, and that they fit is proved in proofs/Fits.
-pub mod Report
+-- What a reader must believe of the length of the tool's answers; that they fit is proved in proofs/Fits.
 pub mod Fits

@@ -1,5 +1,4 @@
--- Written: a buffer that is written from its front. Units: the unit writer's loop. Walks: the loops over a recording.
+-- Written: a buffer that is written from its front. Units: the unit writer's loop.
 pub mod Written
 pub mod Units
 pub mod Open
-pub mod Walks

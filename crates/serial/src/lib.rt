@@ -1,11 +1,8 @@
-// The serial order of a recording, written unit by unit: a walk that copies each unit where it commits. Also the begins of blocks that are
-// still open at the end.
+// The units of a recording, each with its frames, and the begins of blocks that are still open.
 use frame::Action;
 use frame::Decoded;
 use frame::Thread;
 use reply::Mark;
-use reply::Verdict;
-use soundness::Outcome;
 ghost use mathlib.Core.Path.{_≡_};
 ghost use mathlib.Core.Bool.{cond};
 ghost use mathlib.Core.List.{_++_};
@@ -13,7 +10,7 @@ ghost use Prim.Native.Nat.{_≤_};
 ghost use lib.ListN.{length, drop};
 ghost use Rattle.judge.specs.Rules.{phaseOf};
 ghost use Rattle.serial.specs.Order.{settled};
-ghost use Rattle.serial.specs.Walk.{ownFrame, unitOf, unitStart, walkWords, endPoint, earlier, firstOpenFrom};
+ghost use Rattle.serial.specs.Walk.{ownFrame, unitOf, unitStart, earlier, firstOpenFrom};
 
 // A frame seen by a thread: its own, with the depth after it, or another's.
 pub enum Own {
@@ -61,7 +58,7 @@ fn own_frame(d: Decoded, t: Thread, depth: u8) -> Own
 }
 
 // The frames of the unit of thread t that starts at a place, copied to the front of out.
-fn write_unit(words: &[u32], begin: usize, t: Thread, out: &mut [u32]) -> usize
+pub fn write_unit(words: &[u32], begin: usize, t: Thread, out: &mut [u32]) -> usize
     requires { ⌜ length (unitOf (now words) begin t) ≤ length (now out) ⌝ }
     ensures count { λ r. ⌜ r ≡ length (unitOf (now (words .entry)) begin t) ⌝ }
     ensures contents { λ r. ⌜ now (out .exit) ≡ unitOf (now (words .entry)) begin t ++ drop r (now (out .entry)) ⌝ }
@@ -108,7 +105,7 @@ fn mark_if(b: bool, i: u32) -> Mark
 }
 
 // Where the unit starts that a frame at place i commits: its thread's depth, begin and commit before the frame, and depth and commit after.
-fn unit_start(d: u8, begin: u32, commit: u32, depth: u8, committed: u32, i: u32) -> Mark
+pub fn unit_start(d: u8, begin: u32, commit: u32, depth: u8, committed: u32, i: u32) -> Mark
     ensures { λ r. ⌜ r ≡ unitStart (phaseOf d begin commit) (settled (phaseOf depth 0 committed)) i ⌝ }
 {
     if d == 0 {
@@ -150,113 +147,4 @@ pub fn first_open(m: Marks) -> Mark
         k += 1;
     }
     least
-}
-
-// The threads at the end of a recording.
-pub fn end_marks(words: &[u32], guards: &[u8; 1024]) -> Marks
-    requires { ⌜ length (now words) ≤ 4096 ⌝ }
-    ensures depths { λ r. ⌜ r .depths ≡ endPoint (now (guards .entry)) (now (words .entry)) .state .depths ⌝ }
-    ensures begins { λ r. ⌜ r .begins ≡ endPoint (now (guards .entry)) (now (words .entry)) .judging .begins ⌝ }
-{
-    let mut owners = [0u8; 64];
-    let mut depths = [0u8; 32];
-    let mut held = [0u64; 32];
-    let mut begins = [0u32; 32];
-    let mut commits = [0u32; 32];
-    let mut sets = [18446744073709551615u64; 1024];
-    let mut i: usize = 0;
-    while i < words.len() {
-        let d = frame::decode(words[i]);
-        let Decoded::Frame(f) = d else {
-            return Marks {
-                depths: depths,
-                begins: begins,
-            };
-        };
-        let thread = f.thread;
-        let t = thread.0 as usize;
-        let depth = depths[t];
-        let o = soundness::step(&mut owners, &mut depths, f);
-        let Outcome::Next = o else {
-            return Marks {
-                depths: depths,
-                begins: begins,
-            };
-        };
-        let a = f.action;
-        let op = judge::operation_of(guards, a);
-        let v = judge::judge(
-            &mut held,
-            &mut begins,
-            &mut commits,
-            &mut sets,
-            depth,
-            i as u32,
-            thread,
-            op,
-        );
-        let Verdict::Reducible = v else {
-            return Marks {
-                depths: depths,
-                begins: begins,
-            };
-        };
-        i += 1;
-    }
-    Marks {
-        depths: depths,
-        begins: begins,
-    }
-}
-
-// The units of a recording, each written where the one before stopped.
-pub fn write_order(words: &[u32], guards: &[u8; 1024], out: &mut [u32])
-    requires { ⌜ length (now words) ≤ 4096 ⌝ ∗ ⌜ length (walkWords (now guards) (now words)) ≤ length (now out) ⌝ }
-    ensures { λ r. ⌜ now (out .exit) ≡ walkWords (now (guards .entry)) (now (words .entry)) ++ drop (length (walkWords (now (guards .entry)) (now (words .entry)))) (now (out .entry)) ⌝ }
-{
-    let mut owners = [0u8; 64];
-    let mut depths = [0u8; 32];
-    let mut held = [0u64; 32];
-    let mut begins = [0u32; 32];
-    let mut commits = [0u32; 32];
-    let mut sets = [18446744073709551615u64; 1024];
-    let mut at: usize = 0;
-    let mut i: usize = 0;
-    while i < words.len() {
-        let d = frame::decode(words[i]);
-        let Decoded::Frame(f) = d else {
-            return;
-        };
-        let thread = f.thread;
-        let t = thread.0 as usize;
-        let depth = depths[t];
-        let begin = begins[t];
-        let commit = commits[t];
-        let o = soundness::step(&mut owners, &mut depths, f);
-        let Outcome::Next = o else {
-            return;
-        };
-        let a = f.action;
-        let op = judge::operation_of(guards, a);
-        let v = judge::judge(
-            &mut held,
-            &mut begins,
-            &mut commits,
-            &mut sets,
-            depth,
-            i as u32,
-            thread,
-            op,
-        );
-        let Verdict::Reducible = v else {
-            return;
-        };
-        let start = unit_start(depth, begin, commit, depths[t], commits[t], i as u32);
-        i += 1;
-        if let Mark::At(b) = start {
-            let from = b as usize;
-            let n = write_unit(words, from, thread, &mut out[at..]);
-            at += n;
-        }
-    }
 }

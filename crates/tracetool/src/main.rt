@@ -1,5 +1,5 @@
 // The command-line tool: its words, its files and standard output. What the words ask for is said by crate command, and what is printed of
-// the files by crate report. Files are opened for reading only.
+// the files by the crates answers, serialreport and equalreport. Files are opened for reading only.
 use command::Command;
 use command::Request;
 use libc::STDOUT_FILENO;
@@ -73,15 +73,15 @@ fn answer(c: Command, declared: bool, list: &[u8], text: &[u8]) {
     let mut out = [0u8; 36864];
     match c {
         Command::Verdict => {
-            let n = report::verdict_report(declared, list, text, &mut out);
+            let n = answers::verdict_report(declared, list, text, &mut out);
             print(&out[..n]);
         }
         Command::Serial => {
-            let n = report::serial_report(declared, list, text, &mut out);
+            let n = serialreport::serial_report(declared, list, text, &mut out);
             print(&out[..n]);
         }
         _ => {
-            let n = report::explain_report(declared, list, text, &mut out);
+            let n = answers::explain_report(declared, list, text, &mut out);
             print(&out[..n]);
         }
     }
@@ -127,7 +127,7 @@ fn compare() {
     }
     let m = io::count(got, &right);
     let mut out = [0u8; 36864];
-    let k = report::equal_report(&left[..n], &right[..m], &mut out);
+    let k = equalreport::equal_report(&left[..n], &right[..m], &mut out);
     print(&out[..k]);
 }
 

@@ -1,94 +1,40 @@
--- One sentence for each case.
+-- The line of the kind's number is its sentence.
+use mathlib.Core.Path.{_≡_, sym, _∙_}
+use native.Mathlib.Omega.{arith}
 use borrow.Author.Needs.{needs}
 use Rattle.output.specs.Output.{bytes}
+use Rattle.explain.proofs.Lines.{kind-numbered, why-line}
 use Rattle.explain.proofs.say_why.Statement.{statement}
 use Rattle.explain.proofs.say_why.Tie as tie
 
-enum-told : tie.Need-enum-told
-enum-told c = search needs
+kind-number-requires : tie.Need-kind-number-requires
+kind-number-requires c κs = search needs
 
-slice-aggregate-say : tie.Need-slice-aggregate-say
-slice-aggregate-say c = search needs
+slice-aggregate-say-line : tie.Need-slice-aggregate-say-line
+slice-aggregate-say-line c = search needs
 
-say-requires : tie.Need-say-requires
-say-requires c κs = search needs
+sub-say-line : tie.Need-sub-say-line
+sub-say-line c = rw (c .before .before .kind-number .ensures) (kind-numbered (c .before .before .before .before .args .kind))
 
-enum-told-2 : tie.Need-enum-told-2
-enum-told-2 c = search needs
-
-slice-aggregate-say-2 : tie.Need-slice-aggregate-say-2
-slice-aggregate-say-2 c = search needs
-
-say-requires-2 : tie.Need-say-requires-2
-say-requires-2 c κs = search needs
-
-enum-told-3 : tie.Need-enum-told-3
-enum-told-3 c = search needs
-
-slice-aggregate-say-3 : tie.Need-slice-aggregate-say-3
-slice-aggregate-say-3 c = search needs
-
-say-requires-3 : tie.Need-say-requires-3
-say-requires-3 c κs = search needs
-
-enum-told-4 : tie.Need-enum-told-4
-enum-told-4 c = search needs
-
-slice-aggregate-say-4 : tie.Need-slice-aggregate-say-4
-slice-aggregate-say-4 c = search needs
-
-say-requires-4 : tie.Need-say-requires-4
-say-requires-4 c κs = search needs
+say-line-requires : tie.Need-say-line-requires
+say-line-requires c κs = search needs
 
 same-length : tie.Need-same-length
 same-length c = search needs
 
 returns : tie.Need-returns
 unfolding bytes
-returns c = rw (c .before .before .before .before .before .enum-told .given .1) (c .before .before .say .ensures)
-
-same-length-2 : tie.Need-same-length-2
-same-length-2 c = search needs
-
-returns-2 : tie.Need-returns-2
-unfolding bytes
-returns-2 c = rw (c .before .before .before .before .before .enum-told2 .given .1) (c .before .before .say2 .ensures)
-
-same-length-3 : tie.Need-same-length-3
-same-length-3 c = search needs
-
-returns-3 : tie.Need-returns-3
-unfolding bytes
-returns-3 c = rw (c .before .before .before .before .before .enum-told3 .given .1) (c .before .before .say3 .ensures)
-
-same-length-4 : tie.Need-same-length-4
-same-length-4 c = search needs
-
-returns-4 : tie.Need-returns-4
-unfolding bytes
-returns-4 c = rw (c .before .before .before .before .before .enum-told4 .given .1) (c .before .before .say4 .ensures)
+returns c =
+    let r = c .before .before .before .before .before .before .before .args .kind in
+    rw (sym (why-line r)) (rw (c .before .before .before .before .before .kind-number .ensures) at (c .before .before .say-line .ensures))
 
 pub say-why-spec : {M : Type 1} → statement M
 say-why-spec =
     tie.close
     (tie.spec
-    enum-told
-    slice-aggregate-say
-    say-requires
-    enum-told-2
-    slice-aggregate-say-2
-    say-requires-2
-    enum-told-3
-    slice-aggregate-say-3
-    say-requires-3
-    enum-told-4
-    slice-aggregate-say-4
-    say-requires-4
+    kind-number-requires
+    slice-aggregate-say-line
+    sub-say-line
+    say-line-requires
     same-length
-    returns
-    same-length-2
-    returns-2
-    same-length-3
-    returns-3
-    same-length-4
-    returns-4)
+    returns)

@@ -12,8 +12,17 @@ use Rattle.judge.proofs.judge.Tie as tie
 cast-k : tie.Need-cast-k
 cast-k c = search needs
 
-enum-known-op : tie.Need-enum-known-op
-enum-known-op c = search needs
+mul-h : tie.Need-mul-h
+mul-h c = search needs
+
+element-copy-out-h : tie.Need-element-copy-out-h
+element-copy-out-h c = search needs
+
+mul-b : tie.Need-mul-b
+mul-b c = search needs
+
+element-copy-out-b : tie.Need-element-copy-out-b
+element-copy-out-b c = search needs
 
 mul-c : tie.Need-mul-c
 mul-c c = search needs
@@ -21,18 +30,15 @@ mul-c c = search needs
 element-copy-out-c : tie.Need-element-copy-out-c
 element-copy-out-c c = search needs
 
+enum-known-op : tie.Need-enum-known-op
+enum-known-op c = search needs
+
 after-commit-requires : tie.Need-after-commit-requires
 after-commit-requires c κs = search needs
 
-mul-wrong : tie.Need-mul-wrong
-mul-wrong c = search needs
-
-element-copy-out-wrong : tie.Need-element-copy-out-wrong
-element-copy-out-wrong c = search needs
-
 single-requires : tie.Need-single-requires
 single-requires c κs =
-    (rw (c .before .before .before .before .before .op .given .1) at (c .before .before .before .before .before .before .before .before .pre .1 .1)) .0
+    (rw (c .before .before .before .op .given .1) at (c .before .before .before .before .before .before .before .before .before .pre .1 .1)) .0
 
 wrong-requires : tie.Need-wrong-requires
 wrong-requires c κs = search needs
@@ -40,30 +46,24 @@ wrong-requires c κs = search needs
 returns : tie.Need-returns
 unfolding judgeOperation
 returns c =
-    let a = c .before .before .before .before .before .before .before .before .before .before .args in
+    let a = c .before .before .before .before .before .before .before .before .before .before .before .args in
     let j = judgingOf (a .begins .now) (a .commits .now) (a .sets .now) in
     let b = getD (a .begins .now) (a .thread .0) 0 in
     let m = getD (a .commits .now) (a .thread .0) 0 in
-    let e = sym (c .before .before .before .before .after-commit .ensures) ∙ c .before .before .before .if1 .taken in
-    (rw (c .before .before .before .before .before .before .before .op .given .1, c .wrong .ensures, c .before .single .ensures) (acquire-after (a .i) (a .thread) (a .d) b m j e (c .before .before .before .before .before .before .before .op .given .0 .0)), rw (c .wrong .ensures))
-
-mul-held : tie.Need-mul-held
-mul-held c = search needs
-
-element-copy-out-held : tie.Need-element-copy-out-held
-element-copy-out-held c = search needs
+    let e = sym (c .before .before .before .after-commit .ensures) ∙ c .before .before .if1 .taken in
+    (rw (c .before .before .before .before .before .op .given .1, c .wrong .ensures, c .before .single .ensures) (acquire-after (a .i) (a .thread) (a .d) b m j e (c .before .before .before .before .before .op .given .0 .0)), rw (c .wrong .ensures))
 
 single-requires-2 : tie.Need-single-requires-2
 single-requires-2 c κs =
-    (rw (c .before .before .before .before .before .op .given .1) at (c .before .before .before .before .before .before .before .before .pre .1 .1)) .0
+    (rw (c .before .before .before .op .given .1) at (c .before .before .before .before .before .before .before .before .before .pre .1 .1)) .0
 
 add-held : tie.Need-add-held
 add-held c =
-    let p = rw (c .before .before .before .before .before .before .op .given .1) at (c .before .before .before .before .before .before .before .before .before .pre .1 .1) in
+    let p = rw (c .before .before .before .before .op .given .1) at (c .before .before .before .before .before .before .before .before .before .before .pre .1 .1) in
     omega (arith, p .1, c .single2 .ensures)
 
-mul-held-2 : tie.Need-mul-held-2
-mul-held-2 c = search needs
+mul-held : tie.Need-mul-held
+mul-held c = search needs
 
 element-write-held : tie.Need-element-write-held
 element-write-held c = search needs
@@ -71,31 +71,19 @@ element-write-held c = search needs
 enum-known-op-2 : tie.Need-enum-known-op-2
 enum-known-op-2 c = search needs
 
-mul-held-3 : tie.Need-mul-held-3
-mul-held-3 c = search needs
-
-element-copy-out-held-2 : tie.Need-element-copy-out-held-2
-element-copy-out-held-2 c = search needs
-
 single-requires-3 : tie.Need-single-requires-3
-single-requires-3 c κs = (rw (c .before .before .op2 .given .1) at (c .before .before .before .before .before .pre .1 .1)) .0
+single-requires-3 c κs = (rw (c .before .op2 .given .1) at (c .before .before .before .before .before .before .before .pre .1 .1)) .0
 
 sub-held : tie.Need-sub-held
 sub-held c =
-    let p = rw (c .before .before .before .op2 .given .1) at (c .before .before .before .before .before .before .pre .1 .1) in
+    let p = rw (c .before .before .op2 .given .1) at (c .before .before .before .before .before .before .before .before .pre .1 .1) in
     omega (arith, p .1, c .single3 .ensures)
 
-mul-held-4 : tie.Need-mul-held-4
-mul-held-4 c = search needs
+mul-held-2 : tie.Need-mul-held-2
+mul-held-2 c = search needs
 
 element-write-held-2 : tie.Need-element-write-held-2
 element-write-held-2 c = search needs
-
-mul-commit-at : tie.Need-mul-commit-at
-mul-commit-at c = search needs
-
-element-copy-out-commit-at : tie.Need-element-copy-out-commit-at
-element-copy-out-commit-at c = search needs
 
 commit-at-requires : tie.Need-commit-at-requires
 commit-at-requires c κs = search needs
@@ -109,35 +97,17 @@ element-write-commits c = search needs
 enum-known-op-3 : tie.Need-enum-known-op-3
 enum-known-op-3 c = search needs
 
-mul-contains : tie.Need-mul-contains
-mul-contains c = search needs
-
-element-copy-out-contains : tie.Need-element-copy-out-contains
-element-copy-out-contains c = search needs
-
 contains-requires : tie.Need-contains-requires
-contains-requires c κs = rw (c .before .before .op3 .given .1) at (c .before .before .before .before .before .pre .1 .1)
+contains-requires c κs = rw (c .before .op3 .given .1) at (c .before .before .before .before .before .before .before .pre .1 .1)
 
 returns-2 : tie.Need-returns-2
 unfolding judgeOperation
 returns-2 c =
-    (rw (c .before .before .before .before .op3 .given .1, sym (c .before .contains .ensures) ∙ c .if2 .taken), rw (c .before .before .before .before .op3 .given .1))
-
-mul-wrong-2 : tie.Need-mul-wrong-2
-mul-wrong-2 c = search needs
-
-element-copy-out-wrong-2 : tie.Need-element-copy-out-wrong-2
-element-copy-out-wrong-2 c = search needs
-
-mul-wrong-3 : tie.Need-mul-wrong-3
-mul-wrong-3 c = search needs
-
-element-copy-out-wrong-3 : tie.Need-element-copy-out-wrong-3
-element-copy-out-wrong-3 c = search needs
+    (rw (c .before .before .before .op3 .given .1, sym (c .before .contains .ensures) ∙ c .if2 .taken), rw (c .before .before .before .op3 .given .1))
 
 single-requires-4 : tie.Need-single-requires-4
 single-requires-4 c κs =
-    rw (c .before .before .before .before .before .before .op3 .given .1) at (c .before .before .before .before .before .before .before .before .before .pre .1 .1)
+    rw (c .before .before .before .op3 .given .1) at (c .before .before .before .before .before .before .before .before .before .pre .1 .1)
 
 wrong-requires-2 : tie.Need-wrong-requires-2
 wrong-requires-2 c κs = search needs
@@ -145,20 +115,8 @@ wrong-requires-2 c κs = search needs
 enum-told : tie.Need-enum-told
 enum-told c = search needs
 
-mul-c-2 : tie.Need-mul-c-2
-mul-c-2 c = search needs
-
-element-copy-out-c-2 : tie.Need-element-copy-out-c-2
-element-copy-out-c-2 c = search needs
-
 after-commit-requires-2 : tie.Need-after-commit-requires-2
 after-commit-requires-2 c κs = search needs
-
-mul-wrong-4 : tie.Need-mul-wrong-4
-mul-wrong-4 c = search needs
-
-element-copy-out-wrong-4 : tie.Need-element-copy-out-wrong-4
-element-copy-out-wrong-4 c = search needs
 
 wrong-requires-3 : tie.Need-wrong-requires-3
 wrong-requires-3 c κs = search needs
@@ -166,12 +124,12 @@ wrong-requires-3 c κs = search needs
 returns-3 : tie.Need-returns-3
 unfolding judgeOperation
 returns-3 c =
-    let a = c .before .before .before .before .before .before .before .before .args in
+    let a = c .before .before .before .before .before .before .before .before .before .args in
     let j = judgingOf (a .begins .now) (a .commits .now) (a .sets .now) in
     let b = getD (a .begins .now) (a .thread .0) 0 in
     let m = getD (a .commits .now) (a .thread .0) 0 in
-    let e = sym (c .before .before .before .after-commit2 .ensures) ∙ c .before .before .if3 .taken in
-    (rw (c .before .before .before .before .before .enum-told .given .1, c .wrong3 .ensures) (unprotected-after (a .i) (a .thread) (a .d) b m j e (withCommit (a .thread) (committed (a .d) m (a .i)) j)), rw (c .wrong3 .ensures))
+    let e = sym (c .before .before .after-commit2 .ensures) ∙ c .before .if3 .taken in
+    (rw (c .before .before .before .enum-told .given .1, c .wrong3 .ensures) (unprotected-after (a .i) (a .thread) (a .d) b m j e (withCommit (a .thread) (committed (a .d) m (a .i)) j)), rw (c .wrong3 .ensures))
 
 commit-at-requires-2 : tie.Need-commit-at-requires-2
 commit-at-requires-2 c κs = search needs
@@ -192,25 +150,7 @@ mul-s : tie.Need-mul-s
 mul-s c = search needs
 
 element-copy-out-s : tie.Need-element-copy-out-s
-element-copy-out-s c = rw (c .before .before .op4 .given .1) at (c .before .before .before .before .before .pre .1 .1)
-
-mul-x : tie.Need-mul-x
-mul-x c = search needs
-
-element-copy-out-x : tie.Need-element-copy-out-x
-element-copy-out-x c = search needs
-
-mul-wrong-5 : tie.Need-mul-wrong-5
-mul-wrong-5 c = search needs
-
-element-copy-out-wrong-5 : tie.Need-element-copy-out-wrong-5
-element-copy-out-wrong-5 c = search needs
-
-mul-wrong-6 : tie.Need-mul-wrong-6
-mul-wrong-6 c = search needs
-
-element-copy-out-wrong-6 : tie.Need-element-copy-out-wrong-6
-element-copy-out-wrong-6 c = search needs
+element-copy-out-s c = rw (c .before .before .op4 .given .1) at (c .before .before .before .before .before .before .before .before .pre .1 .1)
 
 wrong-requires-4 : tie.Need-wrong-requires-4
 wrong-requires-4 c κs = search needs
@@ -218,14 +158,14 @@ wrong-requires-4 c κs = search needs
 returns-4 : tie.Need-returns-4
 unfolding judgeOperation
 returns-4 c =
-    (rw (c .before .before .before .before .before .before .before .before .op4 .given .1, c .wrong4 .ensures, eq-eqb _ _ (c .before .before .before .if4 .taken)), rw (c .wrong4 .ensures))
+    (rw (c .before .before .before .before .before .op4 .given .1, c .wrong4 .ensures, eq-eqb _ _ (c .before .if4 .taken)), rw (c .wrong4 .ensures))
 
 mul-sets : tie.Need-mul-sets
 mul-sets c = search needs
 
 element-write-sets : tie.Need-element-write-sets
 element-write-sets c =
-    rw (c .before .before .before .before .before .op4 .given .1) at (c .before .before .before .before .before .before .before .before .pre .1 .1)
+    rw (c .before .before .before .before .op4 .given .1) at (c .before .before .before .before .before .before .before .before .before .before .pre .1 .1)
 
 enum-told-2 : tie.Need-enum-told-2
 enum-told-2 c = search needs
@@ -248,37 +188,37 @@ enum-told-3 c = search needs
 returns-5 : tie.Need-returns-5
 unfolding judgeOperation
 returns-5 c =
-    let a = c .before .before .before .before .before .before .before .before .before .args in
+    let a = c .before .before .before .before .before .before .before .before .before .before .args in
     let j = judgingOf (a .begins .now) (a .commits .now) (a .sets .now) in
     let b = getD (a .begins .now) (a .thread .0) 0 in
     let m = getD (a .commits .now) (a .thread .0) 0 in
-    let e = sym (c .before .before .before .after-commit .ensures) ∙ c .before .before .if1 .left in
-    (rw (c .before .before .before .before .before .before .op .given .1) (acquire-else (a .i) (a .thread) (a .d) b m j e (c .before .before .before .before .before .before .op .given .0 .0)), rw (c .before .before .before .before .before .before .op .given .1, c .single2 .ensures))
+    let e = sym (c .before .before .after-commit .ensures) ∙ c .before .if1 .left in
+    (rw (c .before .before .before .before .op .given .1) (acquire-else (a .i) (a .thread) (a .d) b m j e (c .before .before .before .before .op .given .0 .0)), rw (c .before .before .before .before .op .given .1, c .single2 .ensures))
 
 returns-6 : tie.Need-returns-6
 unfolding judgeOperation
 returns-6 c =
-    (rw (c .before .before .before .before .before .op2 .given .1, c .commit-at .ensures), rw (c .before .before .before .before .before .op2 .given .1, c .before .before .single3 .ensures))
+    (rw (c .before .before .before .op2 .given .1, c .commit-at .ensures), rw (c .before .before .before .op2 .given .1, c .before .single3 .ensures))
 
 returns-7 : tie.Need-returns-7
 unfolding judgeOperation
 returns-7 c =
-    (rw (c .before .before .before .before .before .before .before .before .op3 .given .1, c .wrong2 .ensures, c .before .single4 .ensures, sym (c .before .before .before .before .before .contains .ensures) ∙ c .before .before .before .before .if2 .left), rw (c .wrong2 .ensures))
+    (rw (c .before .before .before .before .before .op3 .given .1, c .wrong2 .ensures, c .before .single4 .ensures, sym (c .before .before .before .contains .ensures) ∙ c .before .before .if2 .left), rw (c .wrong2 .ensures))
 
 returns-8 : tie.Need-returns-8
 unfolding judgeOperation
 returns-8 c =
-    let a = c .before .before .before .before .before .before .before .args in
+    let a = c .before .before .before .before .before .before .before .before .before .args in
     let j = judgingOf (a .begins .now) (a .commits .now) (a .sets .now) in
     let b = getD (a .begins .now) (a .thread .0) 0 in
     let m = getD (a .commits .now) (a .thread .0) 0 in
     let e = sym (c .before .before .after-commit2 .ensures) ∙ c .before .if3 .left in
-    (rw (c .before .before .before .before .enum-told .given .1, c .commit-at2 .ensures) (unprotected-else (a .i) (a .thread) (a .d) b m j e (withCommit (a .thread) (committed (a .d) m (a .i)) j)), rw (c .before .before .before .before .enum-told .given .1))
+    (rw (c .before .before .before .enum-told .given .1, c .commit-at2 .ensures) (unprotected-else (a .i) (a .thread) (a .d) b m j e (withCommit (a .thread) (committed (a .d) m (a .i)) j)), rw (c .before .before .before .enum-told .given .1))
 
 returns-9 : tie.Need-returns-9
 unfolding judgeOperation
 returns-9 c =
-    (rw (c .before .before .before .before .before .op4 .given .1, ne-eqb _ _ (c .if4 .left)), rw (c .before .before .before .before .before .op4 .given .1))
+    (rw (c .before .before .before .before .op4 .given .1, ne-eqb _ _ (c .if4 .left)), rw (c .before .before .before .before .op4 .given .1))
 
 returns-10 : tie.Need-returns-10
 unfolding judgeOperation
@@ -297,50 +237,36 @@ judge-spec =
     tie.close
     (tie.spec
     cast-k
-    enum-known-op
+    mul-h
+    element-copy-out-h
+    mul-b
+    element-copy-out-b
     mul-c
     element-copy-out-c
+    enum-known-op
     after-commit-requires
-    mul-wrong
-    element-copy-out-wrong
     single-requires
     wrong-requires
     returns
-    mul-held
-    element-copy-out-held
     single-requires-2
     add-held
-    mul-held-2
+    mul-held
     element-write-held
     enum-known-op-2
-    mul-held-3
-    element-copy-out-held-2
     single-requires-3
     sub-held
-    mul-held-4
+    mul-held-2
     element-write-held-2
-    mul-commit-at
-    element-copy-out-commit-at
     commit-at-requires
     mul-commits
     element-write-commits
     enum-known-op-3
-    mul-contains
-    element-copy-out-contains
     contains-requires
     returns-2
-    mul-wrong-2
-    element-copy-out-wrong-2
-    mul-wrong-3
-    element-copy-out-wrong-3
     single-requires-4
     wrong-requires-2
     enum-told
-    mul-c-2
-    element-copy-out-c-2
     after-commit-requires-2
-    mul-wrong-4
-    element-copy-out-wrong-4
     wrong-requires-3
     returns-3
     commit-at-requires-2
@@ -350,12 +276,6 @@ judge-spec =
     cast-n
     mul-s
     element-copy-out-s
-    mul-x
-    element-copy-out-x
-    mul-wrong-5
-    element-copy-out-wrong-5
-    mul-wrong-6
-    element-copy-out-wrong-6
     wrong-requires-4
     returns-4
     mul-sets

@@ -1,0 +1,51 @@
+// The tool's verdict and its answer in words, written into a lent buffer as far as there is room; the reply is the number of bytes written.
+use explain::explain;
+use explain::explain_refusal;
+use frame::Refused;
+use opening::Opened;
+use output::put_text;
+use reply::Reply;
+use sentence::Source;
+ghost use mathlib.Core.Path.{_≡_};
+ghost use lib.ListN.{length};
+ghost use Rattle.output.specs.Output.{behind, written};
+ghost use Rattle.opening.specs.Opening.{opening};
+ghost use Rattle.answers.specs.Answers.{verdictReport, explainReport};
+
+// The verdict line.
+pub fn verdict_report(declared: bool, list: &[u8], text: &[u8], out: &mut [u8]) -> usize
+    ensures place { λ r. ⌜ r ≡ behind (length (now (out .entry))) 0 (verdictReport declared (now (list .entry)) (now (text .entry))) ⌝ }
+    ensures contents { λ r. ⌜ now (out .exit) ≡ written (now (out .entry)) 0 (verdictReport declared (now (list .entry)) (now (text .entry))) ⌝ }
+{
+    let mut words = [0u32; 4096];
+    let o = opening::open_recording(declared, list, text, &mut words);
+    match o {
+        Opened::Frames(n) => {
+            let k = n as usize;
+            let r = opening::judge(declared, list, &words[..k]);
+            let l = line::verdict_line(r, n);
+            put_text(out, 0, &l)
+        }
+        Opened::Refused(_, x) => {
+            let l = line::verdict_line(Reply::Refused(x), 0);
+            put_text(out, 0, &l)
+        }
+    }
+}
+
+// The answer in words.
+pub fn explain_report(declared: bool, list: &[u8], text: &[u8], out: &mut [u8]) -> usize
+    ensures place { λ r. ⌜ r ≡ behind (length (now (out .entry))) 0 (explainReport declared (now (list .entry)) (now (text .entry))) ⌝ }
+    ensures contents { λ r. ⌜ now (out .exit) ≡ written (now (out .entry)) 0 (explainReport declared (now (list .entry)) (now (text .entry))) ⌝ }
+{
+    let mut words = [0u32; 4096];
+    let o = opening::open_recording(declared, list, text, &mut words);
+    match o {
+        Opened::Frames(n) => {
+            let k = n as usize;
+            let r = opening::judge(declared, list, &words[..k]);
+            explain(out, 0, Source::Recording, &words[..k], r, n)
+        }
+        Opened::Refused(s, x) => explain_refusal(out, 0, s, &words[..0], x),
+    }
+}

@@ -1,0 +1,45 @@
+-- A recording read, with the guard list checked before it, and judged.
+use Prim.Native.Nat.{ℕ, _≤_}
+use mathlib.Core.Path.{_≡_}
+use mathlib.Core.Bool.{Bool, cond}
+use mathlib.Core.List.{List}
+use lib.ListN.{length, take}
+use Rattle.frame.specs.declared.Refused.{Refused}
+use Rattle.text.specs.Text.{scanned, wordsTo}
+use Rattle.text.specs.declared.ReadReply.{ReadReply}
+use Rattle.text.specs.declared.ReadReply.the-variants as read
+use Rattle.guards.specs.Guards.{guardsRead}
+use Rattle.guards.specs.declared.GuardsReply.{GuardsReply}
+use Rattle.guards.specs.declared.GuardsReply.the-variants as guards
+use Rattle.reply.specs.declared.Reply.{Reply}
+use Rattle.reply.specs.declared.Reply.the-variants as reply
+use Rattle.verdict.specs.Verdict.{declaredReply, inferredReply}
+use Rattle.sentence.specs.declared.Source.{Source}
+use Rattle.sentence.specs.declared.Source.the-variants as source
+use Rattle.opening.specs.declared.Opened.{Opened}
+use Rattle.opening.specs.declared.Opened.the-variants as opened
+
+-- Reading a recording: its number of frames, or what is refused.
+abbrev pub openedRead : Source → ReadReply → Opened
+openedRead s (read.Lines n) = opened.Frames n
+openedRead s (read.Refused x) = opened.Refused s x
+
+-- "A guard list is checked before the recording." Where guards are inferred there is none to check.
+abbrev pub listReply : Bool → List ℕ → GuardsReply
+listReply declared list = cond declared (guardsRead list .reply) (guards.Lines 0)
+
+abbrev pub onList : GuardsReply → Opened → Opened
+onList (guards.Lines n) o = o
+onList (guards.Refused x) o = opened.Refused source.GuardList x
+
+unfoldable pub opening : Bool → List ℕ → List ℕ → Opened
+opening declared list s = onList (listReply declared list) (openedRead source.Recording (scanned s))
+
+-- The words of a recording that is read stand first in a table.
+abbrev pub WordsRead : Opened → List ℕ → List ℕ → Type 0
+WordsRead (opened.Frames n) s ws = (n ≤ length ws) × (take n ws ≡ wordsTo s n)
+WordsRead (opened.Refused f x) s ws = Unit {0}
+
+-- The reply of the rules.
+unfoldable pub replyUnder : Bool → List ℕ → List ℕ → Reply
+replyUnder declared list ws = cond declared (declaredReply list ws) (inferredReply ws 1024)

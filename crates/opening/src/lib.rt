@@ -1,0 +1,61 @@
+// A recording read, with the guard list checked before it, and judged.
+use frame::Refused;
+use guards::GuardsReply;
+use reply::Reply;
+use sentence::Source;
+use text::ReadReply;
+ghost use mathlib.Core.Path.{_≡_};
+ghost use Rattle.text.specs.Text.{scanned};
+ghost use Rattle.sentence.specs.declared.Source.the-variants as source;
+ghost use Rattle.opening.specs.Opening.{openedRead, listReply, opening, WordsRead, replyUnder};
+
+// A recording that is read, with its number of frames, or what is refused.
+pub enum Opened {
+    Frames(u32),
+    Refused(Source, Refused),
+}
+
+// A recording's text read into a table.
+pub fn open_text(source: Source, text: &[u8], words: &mut [u32; 4096]) -> Opened
+    ensures reply { λ r. ⌜ r ≡ openedRead source (scanned (now (text .entry))) ⌝ }
+    ensures contents { λ r. ⌜ WordsRead r (now (text .entry)) (now (words .exit)) ⌝ }
+{
+    let q = text::read_into(text, words);
+    match q {
+        ReadReply::Lines(n) => Opened::Frames(n),
+        ReadReply::Refused(x) => Opened::Refused(source, x),
+    }
+}
+
+// The guard list, where guards are declared.
+fn check_list(declared: bool, list: &[u8]) -> GuardsReply
+    ensures { λ r. ⌜ r ≡ listReply declared (now (list .entry)) ⌝ }
+{
+    if declared {
+        let g = guards::read_guards(list);
+        return g.reply;
+    }
+    GuardsReply::Lines(0)
+}
+
+// The guard list checked, then the recording read.
+pub fn open_recording(declared: bool, list: &[u8], text: &[u8], words: &mut [u32; 4096]) -> Opened
+    ensures reply { λ r. ⌜ r ≡ opening declared (now (list .entry)) (now (text .entry)) ⌝ }
+    ensures contents { λ r. ⌜ WordsRead r (now (text .entry)) (now (words .exit)) ⌝ }
+{
+    let g = check_list(declared, list);
+    match g {
+        GuardsReply::Lines(n) => open_text(Source::Recording, text, words),
+        GuardsReply::Refused(x) => Opened::Refused(Source::GuardList, x),
+    }
+}
+
+// The reply of the rules.
+pub fn judge(declared: bool, list: &[u8], words: &[u32]) -> Reply
+    ensures { λ r. ⌜ r ≡ replyUnder declared (now (list .entry)) (now (words .entry)) ⌝ }
+{
+    if declared {
+        return verdict::declared(list, words);
+    }
+    verdict::inferred_reply(words)
+}

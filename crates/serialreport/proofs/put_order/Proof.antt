@@ -1,0 +1,78 @@
+-- The lines of the order that is written, or the refusal.
+use mathlib.Core.Path.{sym, _∙_}
+use borrow.Author.Needs.{needs}
+use lib.Seq.{length-take-le}
+use Rattle.serial.specs.Order.{serialWords}
+use Rattle.serialreport.specs.SerialReport.{guardsUnder}
+use Rattle.serialreport.proofs.Laws.{words-ordered}
+use Rattle.serialreport.proofs.put_order.Statement.{statement}
+use Rattle.serialreport.proofs.put_order.Tie as tie
+
+serial-order-requires : tie.Need-serial-order-requires
+serial-order-requires c κs = search needs
+
+enum-known-q : tie.Need-enum-known-q
+enum-known-q c = search needs
+
+cast-k : tie.Need-cast-k
+cast-k c = search needs
+
+array-share-prefix-serial : tie.Need-array-share-prefix-serial
+array-share-prefix-serial c =
+    let g = c .before .before .q .given in
+    let a = c .before .before .before .before .before .before .before .before .before .args in
+    let r = c .before .before .before .before .serial-order in
+    let w = words-ordered (r .result) (g .0 .0) (serialWords (guardsUnder (a .declared) (a .list .now)) (a .words .now)) (r .last .1 .1 .1 .0) (g .1) (r .ensures .1) in
+    w .0
+
+slice-aggregate-put-words : tie.Need-slice-aggregate-put-words
+slice-aggregate-put-words c =
+    let g = c .before .before .before .q .given in
+    let a = c .before .before .before .before .before .before .before .before .before .before .args in
+    let r = c .before .before .before .before .before .serial-order in
+    let w = words-ordered (r .result) (g .0 .0) (serialWords (guardsUnder (a .declared) (a .list .now)) (a .words .now)) (r .last .1 .1 .1 .0) (g .1) (r .ensures .1) in
+    sym (length-take-le _ _ (w .0))
+
+put-words-requires : tie.Need-put-words-requires
+put-words-requires c κs = search needs
+
+enum-known-q-2 : tie.Need-enum-known-q-2
+enum-known-q-2 c = search needs
+
+explain-refusal-requires : tie.Need-explain-refusal-requires
+explain-refusal-requires c κs = search needs
+
+same-length : tie.Need-same-length
+same-length c = search needs
+
+returns : tie.Need-returns
+returns c =
+    let g = c .before .before .before .before .before .before .q .given in
+    let a = c .before .before .before .before .before .before .before .before .before .before .before .before .before .args in
+    let r = c .before .before .before .before .before .before .before .before .serial-order in
+    let w = words-ordered (r .result) (g .0 .0) (serialWords (guardsUnder (a .declared) (a .list .now)) (a .words .now)) (r .last .1 .1 .1 .0) (g .1) (r .ensures .1) in
+    rw (sym (r .ensures .0) ∙ g .1, ← w .1) (c .before .before .put-words .ensures)
+
+same-length-2 : tie.Need-same-length-2
+same-length-2 c = search needs
+
+returns-2 : tie.Need-returns-2
+returns-2 c =
+    rw (sym (c .before .before .before .before .before .before .before .serial-order .ensures .0) ∙ c .before .before .before .before .before .q2 .given .1) (c .before .before .explain-refusal .ensures)
+
+pub put-order-spec : {M : Type 1} → statement M
+put-order-spec =
+    tie.close
+    (tie.spec
+    serial-order-requires
+    enum-known-q
+    cast-k
+    array-share-prefix-serial
+    slice-aggregate-put-words
+    put-words-requires
+    enum-known-q-2
+    explain-refusal-requires
+    same-length
+    returns
+    same-length-2
+    returns-2)

@@ -1,0 +1,2 @@
+-- Walks: the loops over a recording.
+pub mod Walks
