@@ -1,5 +1,5 @@
--- Laws of the walk, one for each way that a turn of a loop can go: passing frames of other threads, and matching.
-use Prim.Native.Nat.{ℕ, suc, _+_, _≤_, _<_, _/_, _%_}
+-- Laws of the walk, one for each way that a turn of its loop can go.
+use Prim.Native.Nat.{ℕ, suc, _+_, _≤_, _<_}
 use mathlib.Core.Path.{_≡_, refl, sym, ap, _∙_, subst}
 use mathlib.Core.Logic.{_↔_}
 use mathlib.Core.Bool.{Bool, true, false, cond, false≢true}
@@ -11,44 +11,19 @@ use lib.Dec.{eqb}
 use lib.ListN.{length, getD, set, drop, replicate, length-set, drop-of-length-le}
 use lib.Seq.{getD-set-same, getD-set-other, drop-cons}
 use Rattle.frame.proofs.Shared.{either, getD-filled}
-use Rattle.frame.proofs.Laws.{decoded-in-range, shown}
+use Rattle.frame.proofs.Laws.{decoded-in-range}
 use Rattle.frame.specs.Frame.{decodeWord, ObjectInRange, InRange}
 use Rattle.frame.specs.declared.Action.{Action}
 use Rattle.frame.specs.declared.Action.the-variants.{Acquire, Release, Read, Write, Begin, End}
 use Rattle.frame.specs.declared.Frame.{Frame}
 use Rattle.frame.specs.declared.Decoded.the-variants as decoded
-use Rattle.soundness.specs.Soundness.{checkReply}
-use Rattle.exchange.proofs.Frames.{apart, sound-decodes}
+use Rattle.exchange.proofs.Frames.{apart}
 use Rattle.exchange.proofs.Match.{Raised, rest, Well, Fits, rest-all, well-start, well-fits, well-on, well-back, well-end, fits-length}
 use Rattle.exchange.specs.Independent.{Named, lock, variable, neither, named, sameNamed, clash}
 use Rattle.exchange.specs.Exchange.{Exchanges, frameIn, frameOf}
-use Rattle.equal.specs.Equal.{sound, equalWords}
-use Rattle.equal.specs.Walk.{threadOf, wordAt, FoundIn, Lasts, lastsOf, lastAt, markAt}
+use Rattle.equal.specs.Equal.{equalWords}
+use Rattle.matching.specs.Places.{threadOf, wordAt, FoundIn, Lasts, lastsOf, lastAt, markAt}
 use Rattle.equal.proofs.Exchanges.{exchanges-equal, not-equal}
-
--- the thread is the word's second byte
-thread-byte : (w : ℕ) → decodeWord w ≡ decoded.Frame (frameOf w) → threadOf w ≡ w / 65536 % 256
-thread-byte w e = ap (λ f. f .thread .0) (shown (w / 16777216) (w / 65536 % 256) (w % 65536) (frameOf w) e .frame)
-
--- Where the loop of `find` stands.
-pub record Passing (ws : List ℕ) (t from i : ℕ) : Type 0 where
-  pub onward : from ≤ i
-  pub within : i ≤ length ws
-  pub passed : (k : ℕ) → from ≤ k → k < i → threadOf (wordAt ws k) ≡ t → ⊥
-
-module _ {ws : List ℕ} {t from i : ℕ} (s : checkReply ws ≡ sound) (p : Passing ws t from i) where
-  pub passing-more : i < length ws → (wordAt ws i / 65536 % 256 ≡ t → ⊥) → Passing ws t from (i + 1)
-  passing-more h n = record { onward = omega (arith, p .onward); within = omega arith; passed = λ k a b. go k a b (eqb k i) refl }
-    where
-      go : (k : ℕ) → from ≤ k → k < i + 1 → (b : Bool) → eqb k i ≡ b → threadOf (wordAt ws k) ≡ t → ⊥
-      go k a b true q e = n (sym (thread-byte (wordAt ws i) (sound-decodes ws s i h)) ∙ subst (λ j. threadOf (wordAt ws j) ≡ t) (eqb-true k i q) e)
-      go k a b false q e = p .passed k a (omega (arith, eqb-false k i q)) e
-
-  pub passed-mine : i < length ws → wordAt ws i / 65536 % 256 ≡ t → FoundIn ws t from i
-  passed-mine h e = record { onward = p .onward; within = p .within; passed = p .passed; mine = λ _. thread-byte (wordAt ws i) (sound-decodes ws s i h) ∙ e }
-
-  pub passed-all : length ws ≤ i → FoundIn ws t from i
-  passed-all h = record { onward = p .onward; within = p .within; passed = p .passed; mine = λ g. absurd (omega arith) }
 
 -- A store in an array, and what is read of it then.
 stored : (l : List ℕ) (k j q : ℕ) → k < length l → getD (set l k q) j 0 ≡ cond (eqb k j) q (getD l j 0)

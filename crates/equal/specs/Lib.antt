@@ -1,3 +1,2 @@
--- What a reader must believe of the comparison: Equal, what it answers, and the claim; Walk, what its functions tell each other.
+-- What a reader must believe of the comparison: Equal, what it answers, and the claims. What its steps do is said in crate matching.
 pub mod Equal
-pub mod Walk

@@ -9,7 +9,7 @@ use Rattle.frame.proofs.Laws.{decoded-in-range}
 use Rattle.soundness.proofs.Laws.{sound-fits}
 use Rattle.exchange.proofs.Exchange.{exchanges-length}
 use Rattle.exchange.proofs.Frames.{apart, sound-not-bad}
-use Rattle.equal.specs.Walk.{lastsOf}
+use Rattle.matching.specs.Places.{lastsOf}
 use Rattle.equal.proofs.Exchanges.{not-equal}
 use Rattle.equal.proofs.Walk.{Walking, walk-start, walk-end, missing, words-differ, too-early, go-on}
 use Rattle.equal.proofs.same.Statement.{statement}

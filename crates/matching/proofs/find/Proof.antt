@@ -1,11 +1,11 @@
--- Invariant: `Passing` of proofs/Walk.
+-- Invariant: `Passing` of proofs/Passing.
 use Prim.Native.Nat.{_-_}
 use native.Mathlib.Omega.{arith}
 use borrow.Author.Needs.{needs}
 use lib.ListN.{length}
-use Rattle.equal.proofs.Walk.{Passing, passing-more, passed-mine, passed-all}
-use Rattle.equal.proofs.find.Statement.{statement}
-use Rattle.equal.proofs.find.Tie as tie
+use Rattle.matching.proofs.Passing.{Passing, passing-more, passed-mine, passed-all}
+use Rattle.matching.proofs.find.Statement.{statement}
+use Rattle.matching.proofs.find.Tie as tie
 
 abbrev Inv-loop : tie.InvT-loop
 Inv-loop words from t i₀ i = Passing words t from i

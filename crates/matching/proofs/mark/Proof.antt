@@ -2,8 +2,8 @@
 use mathlib.Core.Path.{refl}
 use native.Mathlib.Omega.{arith}
 use borrow.Author.Needs.{needs}
-use Rattle.equal.proofs.mark.Statement.{statement}
-use Rattle.equal.proofs.mark.Tie as tie
+use Rattle.matching.proofs.mark.Statement.{statement}
+use Rattle.matching.proofs.mark.Tie as tie
 
 enum-known-a : tie.Need-enum-known-a
 enum-known-a c = search needs

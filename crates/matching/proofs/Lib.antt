@@ -1,0 +1,2 @@
+-- Passing: the loop of `find`.
+mod Passing
