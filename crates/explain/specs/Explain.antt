@@ -23,16 +23,7 @@ use Rattle.sentence.specs.Sentence.{filled}
 use Rattle.sentence.specs.declared.Source.{Source}
 use Rattle.sentence.specs.declared.Facts.{Facts}
 
--- The length of a text's first line, with its line end.
-unfoldable pub lineLength : List ℕ → ℕ
-lineLength [] = 0
-lineLength (c ∷ t) = cond (eqb c 10) 1 (suc (lineLength t))
-
--- Line n of a text, counted from 0.
-unfoldable pub lineOf : ℕ → List ℕ → List ℕ
-lineOf zero t = take (lineLength t) t
-lineOf (suc n) t = lineOf n (drop (lineLength t) t)
-
+-- The sentence of a refusal.
 abbrev pub refusalSentence : Refusal → String
 refusalSentence refusal.Line =
     "refused: number 1, @ of % is not eight digits 0-9 A-F and one LF; write it so, without blanks, lower case or CR, and end the last line.\n"

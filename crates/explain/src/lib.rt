@@ -10,43 +10,11 @@ use sentence::Facts;
 use sentence::Source;
 use sentence::say;
 ghost use mathlib.Core.Path.{_≡_};
-ghost use Prim.Native.Nat.{_+_, _≤_};
-ghost use lib.ListN.{length, getD, drop};
+ghost use lib.ListN.{length, getD};
 ghost use Rattle.output.specs.Output.{bytes, behind, written};
 ghost use Rattle.sentence.specs.Sentence.{filled};
-ghost use Rattle.explain.specs.Explain.{lineLength, lineOf, refusalSentence, kindSentence, blockSentence, whySentence, placeOf};
+ghost use Rattle.explain.specs.Explain.{refusalSentence, kindSentence, blockSentence, whySentence, placeOf};
 ghost use Rattle.explain.specs.Explain.{placeFacts, violationFacts, refusalText, violationText, explanation};
-
-// The place behind the line of a text that starts at a place.
-fn line_end(text: &[u8], start: usize) -> usize
-    requires { ⌜ start ≤ length (now text) ⌝ }
-    ensures { λ e. ⌜ e ≡ start + lineLength (drop start (now (text .entry))) ⌝ }
-{
-    let mut e = start;
-    while e < text.len() {
-        let c = text[e];
-        e += 1;
-        if c == 10 {
-            return e;
-        }
-    }
-    e
-}
-
-// Line n of a text, counted from 0.
-fn say_line(out: &mut [u8], at: usize, text: &[u8], n: u8, f: Facts) -> usize
-    ensures place { λ r. ⌜ r ≡ behind (length (now (out .entry))) at (filled f (lineOf n (now (text .entry)))) ⌝ }
-    ensures contents { λ r. ⌜ now (out .exit) ≡ written (now (out .entry)) at (filled f (lineOf n (now (text .entry)))) ⌝ }
-{
-    let mut start = 0;
-    let mut k = n;
-    while k > 0 {
-        start = line_end(text, start);
-        k -= 1;
-    }
-    let e = line_end(text, start);
-    say(out, at, &text[start..e], f)
-}
 
 // The sentence of a refusal.
 fn say_refusal(out: &mut [u8], at: usize, reason: Refusal, f: Facts) -> usize
@@ -54,9 +22,7 @@ fn say_refusal(out: &mut [u8], at: usize, reason: Refusal, f: Facts) -> usize
     ensures contents { λ r. ⌜ now (out .exit) ≡ written (now (out .entry)) at (filled f (bytes (refusalSentence reason))) ⌝ }
 {
     let n = frame::refusal_number(reason);
-    say_line(
-        out,
-        at,
+    let sentence = textlines::line_of(
         b"refused: number 1, @ of % is not eight digits 0-9 A-F and one LF; write it so, without blanks, lower case or CR, and end the last line.\n\
             refused: number 2, % has more than 4096 lines; cut it down to 4096.\n\
             refused: number 3, the word buffer has fewer than # words; lend one for each line.\n\
@@ -75,8 +41,8 @@ fn say_refusal(out: &mut [u8], at: usize, reason: Refusal, f: Facts) -> usize
             refused: number 16, the table of candidate sets has fewer than 1024 entries; lend 1024.\n\
             refused: number 17, the line buffer has fewer than 33 bytes; lend 33.\n",
         n - 1,
-        f,
-    )
+    );
+    say(out, at, sentence, f)
 }
 
 // What happened.
@@ -85,16 +51,14 @@ fn say_kind(out: &mut [u8], at: usize, kind: Kind, f: Facts) -> usize
     ensures contents { λ r. ⌜ now (out .exit) ≡ written (now (out .entry)) at (filled f (bytes (kindSentence kind))) ⌝ }
 {
     let n = reply::kind_number(kind);
-    say_line(
-        out,
-        at,
+    let sentence = textlines::line_of(
         b"violation: kind 1, guard not held, by thread &.\n\
             violation: kind 2, unprotected access after commit, by thread &.\n\
             violation: kind 3, acquire after commit, by thread &.\n\
             violation: kind 4, candidate set emptied, by thread &.\n",
         n - 1,
-        f,
-    )
+    );
+    say(out, at, sentence, f)
 }
 
 // The thread's block.
@@ -127,16 +91,14 @@ fn say_why(out: &mut [u8], at: usize, kind: Kind, f: Facts) -> usize
     ensures contents { λ r. ⌜ now (out .exit) ≡ written (now (out .entry)) at (filled f (bytes (whySentence kind))) ⌝ }
 {
     let n = reply::kind_number(kind);
-    say_line(
-        out,
-        at,
+    let sentence = textlines::line_of(
         b"  The guard of variable $ is lock ~, and thread & does not hold it: another thread may access the variable at the same time.\n\
             \x20 Variable $ has no guard: another thread may change it, or what the block accessed before, between these lines.\n\
             \x20 A block takes no lock after its commit: between these lines another thread may change what the block has read or written.\n\
             \x20 Locks left that may guard variable $: ~. Thread & holds none of them, so no one lock guards every access of the variable.\n",
         n - 1,
-        f,
-    )
+    );
+    say(out, at, sentence, f)
 }
 
 fn say_violation(out: &mut [u8], at: usize, f: Facts, v: Violation) -> usize

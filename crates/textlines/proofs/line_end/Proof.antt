@@ -4,10 +4,10 @@ use mathlib.Core.Path.{_≡_, refl, sym, _∙_}
 use native.Mathlib.Omega.{arith}
 use borrow.Author.Needs.{needs}
 use lib.ListN.{length, drop}
-use Rattle.explain.specs.Explain.{lineLength}
-use Rattle.explain.proofs.Lines.{ends, goes-on, no-line}
-use Rattle.explain.proofs.line_end.Statement.{statement}
-use Rattle.explain.proofs.line_end.Tie as tie
+use Rattle.textlines.specs.Lines.{lineLength}
+use Rattle.textlines.proofs.Lines.{ends, goes-on, no-line}
+use Rattle.textlines.proofs.line_end.Statement.{statement}
+use Rattle.textlines.proofs.line_end.Tie as tie
 
 abbrev Inv-loop : tie.InvT-loop
 Inv-loop text start e₀ e = (e ≤ length text) × (e + lineLength (drop e text) ≡ start + lineLength (drop start text))

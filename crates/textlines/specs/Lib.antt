@@ -1,0 +1,2 @@
+-- What a reader must believe of the lines of a text.
+pub mod Lines
