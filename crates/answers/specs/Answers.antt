@@ -4,11 +4,11 @@ use mathlib.Core.Bool.{Bool}
 use mathlib.Core.List.{List, []}
 use Rattle.frame.specs.declared.Refused.{Refused}
 use Rattle.text.specs.Text.{wordsTo}
-use Rattle.text.specs.declared.ReadReply.the-variants as read
 use Rattle.reply.specs.declared.Reply.the-variants as reply
 use Rattle.line.specs.Line.{verdictLine}
 use Rattle.sentence.specs.declared.Source.the-variants as source
-use Rattle.explain.specs.Explain.{refusalText, explanation}
+use Rattle.explain.specs.Explain.{explanation}
+use Rattle.refusaltext.specs.RefusalText.{refusalText}
 use Rattle.opening.specs.declared.Opened.{Opened}
 use Rattle.opening.specs.declared.Opened.the-variants as opened
 use Rattle.opening.specs.Opening.{opening, replyUnder}

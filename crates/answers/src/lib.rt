@@ -1,6 +1,6 @@
 // The tool's verdict and its answer in words, written into a lent buffer as far as there is room; the reply is the number of bytes written.
 use explain::explain;
-use explain::explain_refusal;
+use refusaltext::explain_refusal;
 use frame::Refused;
 use opening::Opened;
 use output::put_text;

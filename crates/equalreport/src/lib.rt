@@ -1,7 +1,7 @@
 // The comparison of two recordings as the tool prints it, written into a lent buffer as far as there is room; the reply is the number of bytes written.
 use equal::EqualReply;
 use equal::Side;
-use explain::explain_refusal;
+use refusaltext::explain_refusal;
 use frame::Refused;
 use opening::Opened;
 use output::put_text;

@@ -1,2 +1,3 @@
--- The tool's answers fit.
+-- Lengths: how long an answer in words can be. Fits: the tool's answers fit.
+mod Lengths
 pub mod Fits

@@ -14,7 +14,7 @@ use Rattle.order.specs.declared.OrderReply.{OrderReply}
 use Rattle.order.specs.declared.OrderReply.the-variants as order
 use Rattle.line.specs.Line.{wordLine}
 use Rattle.sentence.specs.declared.Source.the-variants as source
-use Rattle.explain.specs.Explain.{refusalText}
+use Rattle.refusaltext.specs.RefusalText.{refusalText}
 use Rattle.opening.specs.declared.Opened.{Opened}
 use Rattle.opening.specs.declared.Opened.the-variants as opened
 use Rattle.opening.specs.Opening.{opening}

@@ -1,5 +1,5 @@
 // The serial order as the tool prints it, written into a lent buffer as far as there is room; the reply is the number of bytes written.
-use explain::explain_refusal;
+use refusaltext::explain_refusal;
 use frame::Refused;
 use opening::Opened;
 use order::OrderReply;

@@ -1,7 +1,7 @@
 -- The word is that at the place.
 use borrow.Author.Needs.{needs}
-use Rattle.explain.proofs.place_facts.Statement.{statement}
-use Rattle.explain.proofs.place_facts.Tie as tie
+use Rattle.facts.proofs.place_facts.Statement.{statement}
+use Rattle.facts.proofs.place_facts.Tie as tie
 
 word-at-requires : tie.Need-word-at-requires
 word-at-requires c κs = search needs

@@ -1,7 +1,7 @@
 -- The sentence, filled in with what is known of the place.
 use borrow.Author.Needs.{needs}
-use Rattle.explain.proofs.explain_refusal.Statement.{statement}
-use Rattle.explain.proofs.explain_refusal.Tie as tie
+use Rattle.refusaltext.proofs.explain_refusal.Statement.{statement}
+use Rattle.refusaltext.proofs.explain_refusal.Tie as tie
 
 place-facts-requires : tie.Need-place-facts-requires
 place-facts-requires c κs = search needs

@@ -2,8 +2,8 @@
 use borrow.Author.Needs.{needs}
 use Rattle.output.specs.Output.{bytes}
 use Rattle.output.proofs.Laws.{put-more}
-use Rattle.explain.proofs.say_violation.Statement.{statement}
-use Rattle.explain.proofs.say_violation.Tie as tie
+use Rattle.violationtext.proofs.say_violation.Statement.{statement}
+use Rattle.violationtext.proofs.say_violation.Tie as tie
 
 say-kind-requires : tie.Need-say-kind-requires
 say-kind-requires c κs = search needs

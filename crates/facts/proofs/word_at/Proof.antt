@@ -2,8 +2,8 @@
 use mathlib.Core.Path.{sym}
 use borrow.Author.Needs.{needs}
 use lib.ListN.{List·getD-eq-default}
-use Rattle.explain.proofs.word_at.Statement.{statement}
-use Rattle.explain.proofs.word_at.Tie as tie
+use Rattle.facts.proofs.word_at.Statement.{statement}
+use Rattle.facts.proofs.word_at.Tie as tie
 
 mul-result : tie.Need-mul-result
 mul-result c = search needs

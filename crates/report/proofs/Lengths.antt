@@ -24,8 +24,10 @@ use Rattle.sentence.specs.Sentence.{filled}
 use Rattle.sentence.specs.declared.Source.{Source}
 use Rattle.sentence.specs.declared.Facts.{Facts}
 use Rattle.sentence.proofs.Lengths.{pieceWeight, weight, sentence-within}
-use Rattle.explain.specs.Explain.{refusalSentence, kindSentence, blockSentence, frameSentence, whySentence, reducibleSentence}
-use Rattle.explain.specs.Explain.{placeFacts, violationFacts, refusalText, violationText, explanation}
+use Rattle.explain.specs.Explain.{reducibleSentence, explanation}
+use Rattle.violationtext.specs.ViolationText.{kindSentence, blockSentence, frameSentence, whySentence, violationText}
+use Rattle.refusaltext.specs.RefusalText.{refusalSentence, refusalText}
+use Rattle.facts.specs.Facts.{placeFacts, violationFacts}
 
 -- a sentence that comes to 2,048 bytes at most
 abbrev Short : String → Type 0

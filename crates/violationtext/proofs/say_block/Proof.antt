@@ -1,8 +1,8 @@
 -- One sentence for each case.
 use borrow.Author.Needs.{needs}
 use Rattle.output.specs.Output.{bytes}
-use Rattle.explain.proofs.say_block.Statement.{statement}
-use Rattle.explain.proofs.say_block.Tie as tie
+use Rattle.violationtext.proofs.say_block.Statement.{statement}
+use Rattle.violationtext.proofs.say_block.Tie as tie
 
 enum-told : tie.Need-enum-told
 enum-told c = search needs

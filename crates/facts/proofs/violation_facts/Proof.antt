@@ -1,7 +1,7 @@
 -- The words are those at the frame and at the commit.
 use borrow.Author.Needs.{needs}
-use Rattle.explain.proofs.violation_facts.Statement.{statement}
-use Rattle.explain.proofs.violation_facts.Tie as tie
+use Rattle.facts.proofs.violation_facts.Statement.{statement}
+use Rattle.facts.proofs.violation_facts.Tie as tie
 
 place-of-requires : tie.Need-place-of-requires
 place-of-requires c κs = search needs

@@ -1,3 +1,0 @@
--- Laws of answers in words that crates above cite.
-pub mod Lengths
-pub mod Lines

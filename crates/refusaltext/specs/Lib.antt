@@ -1,0 +1,2 @@
+-- What a reader must believe of refusals in words.
+pub mod RefusalText

@@ -1,0 +1,2 @@
+-- Sentences: the sentences as lines of two texts.
+pub mod Sentences

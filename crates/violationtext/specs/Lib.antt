@@ -1,0 +1,2 @@
+-- What a reader must believe of violations in words.
+pub mod ViolationText

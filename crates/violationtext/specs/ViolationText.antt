@@ -1,0 +1,45 @@
+-- A violation in words, in the manner of 000, figure 2: where the block began, where and by what it committed, which frame goes wrong, and
+-- why. What the marks of a sentence stand for is said by `piece` (crate sentence).
+use Prim.Native.Nat.{ℕ}
+use Prim.Native.String.{String}
+use mathlib.Core.List.{List, _++_}
+use Rattle.reply.specs.declared.Kind.{Kind}
+use Rattle.reply.specs.declared.Kind.the-variants as kind
+use Rattle.reply.specs.declared.Mark.{Mark}
+use Rattle.reply.specs.declared.Mark.the-variants as mark
+use Rattle.reply.specs.declared.Violation.{Violation}
+use Rattle.output.specs.Output.{bytes}
+use Rattle.sentence.specs.Sentence.{filled}
+use Rattle.sentence.specs.declared.Facts.{Facts}
+
+-- What happened.
+abbrev pub kindSentence : Kind → String
+kindSentence kind.GuardNotHeld = "violation: kind 1, guard not held, by thread &.\n"
+kindSentence kind.UnprotectedAfterCommit = "violation: kind 2, unprotected access after commit, by thread &.\n"
+kindSentence kind.AcquireAfterCommit = "violation: kind 3, acquire after commit, by thread &.\n"
+kindSentence kind.SetEmptied = "violation: kind 4, candidate set emptied, by thread &.\n"
+
+-- The thread's block: "Begin is absent outside a block, commit is absent there and before commit."
+abbrev pub blockSentence : Mark → Mark → String
+blockSentence mark.Absent c = "  The thread is in no block.\n"
+blockSentence (mark.At b) mark.Absent = "  The block begins at < and has not committed.\n"
+blockSentence (mark.At b) (mark.At c) = "  The block begins at <.\n  It commits at >: ^.\n"
+
+abbrev pub frameSentence : String
+frameSentence = "  It goes wrong at @: *.\n"
+
+-- Why it goes wrong.
+abbrev pub whySentence : Kind → String
+whySentence kind.GuardNotHeld =
+    "  The guard of variable $ is lock ~, and thread & does not hold it: another thread may access the variable at the same time.\n"
+whySentence kind.UnprotectedAfterCommit =
+    "  Variable $ has no guard: another thread may change it, or what the block accessed before, between these lines.\n"
+whySentence kind.AcquireAfterCommit =
+    "  A block takes no lock after its commit: between these lines another thread may change what the block has read or written.\n"
+whySentence kind.SetEmptied =
+    "  Locks left that may guard variable $: ~. Thread & holds none of them, so no one lock guards every access of the variable.\n"
+
+abbrev pub violationText : Facts → Violation → List ℕ
+violationText f v =
+    filled f (bytes (kindSentence (v .kind)))
+    ++ (filled f (bytes (blockSentence (v .begin) (v .commit))) ++ (filled f (bytes frameSentence) ++ filled f (bytes (whySentence (v .kind)))))

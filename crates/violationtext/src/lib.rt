@@ -1,0 +1,80 @@
+// A violation in words: what happened, the thread's block, the frame, and why it goes wrong.
+use reply::Kind;
+use reply::Mark;
+use reply::Violation;
+use sentence::Facts;
+use sentence::say;
+ghost use mathlib.Core.Path.{_≡_};
+ghost use lib.ListN.{length};
+ghost use Rattle.output.specs.Output.{bytes, behind, written};
+ghost use Rattle.sentence.specs.Sentence.{filled};
+ghost use Rattle.violationtext.specs.ViolationText.{kindSentence, blockSentence, whySentence, violationText};
+
+// What happened.
+fn say_kind(out: &mut [u8], at: usize, kind: Kind, f: Facts) -> usize
+    ensures place { λ r. ⌜ r ≡ behind (length (now (out .entry))) at (filled f (bytes (kindSentence kind))) ⌝ }
+    ensures contents { λ r. ⌜ now (out .exit) ≡ written (now (out .entry)) at (filled f (bytes (kindSentence kind))) ⌝ }
+{
+    let n = reply::kind_number(kind);
+    let sentence = textlines::line_of(
+        b"violation: kind 1, guard not held, by thread &.\n\
+            violation: kind 2, unprotected access after commit, by thread &.\n\
+            violation: kind 3, acquire after commit, by thread &.\n\
+            violation: kind 4, candidate set emptied, by thread &.\n",
+        n - 1,
+    );
+    say(out, at, sentence, f)
+}
+
+// The thread's block.
+fn say_block(out: &mut [u8], at: usize, begin: Mark, commit: Mark, f: Facts) -> usize
+    ensures place { λ r. ⌜ r ≡ behind (length (now (out .entry))) at (filled f (bytes (blockSentence begin commit))) ⌝ }
+    ensures contents { λ r. ⌜ now (out .exit) ≡ written (now (out .entry)) at (filled f (bytes (blockSentence begin commit))) ⌝ }
+{
+    match begin {
+        Mark::Absent => say(out, at, b"  The thread is in no block.\n", f),
+        Mark::At(b) => match commit {
+            Mark::Absent => say(
+                out,
+                at,
+                b"  The block begins at < and has not committed.\n",
+                f,
+            ),
+            Mark::At(c) => say(
+                out,
+                at,
+                b"  The block begins at <.\n  It commits at >: ^.\n",
+                f,
+            ),
+        },
+    }
+}
+
+// Why it goes wrong.
+fn say_why(out: &mut [u8], at: usize, kind: Kind, f: Facts) -> usize
+    ensures place { λ r. ⌜ r ≡ behind (length (now (out .entry))) at (filled f (bytes (whySentence kind))) ⌝ }
+    ensures contents { λ r. ⌜ now (out .exit) ≡ written (now (out .entry)) at (filled f (bytes (whySentence kind))) ⌝ }
+{
+    let n = reply::kind_number(kind);
+    let sentence = textlines::line_of(
+        b"  The guard of variable $ is lock ~, and thread & does not hold it: another thread may access the variable at the same time.\n\
+            \x20 Variable $ has no guard: another thread may change it, or what the block accessed before, between these lines.\n\
+            \x20 A block takes no lock after its commit: between these lines another thread may change what the block has read or written.\n\
+            \x20 Locks left that may guard variable $: ~. Thread & holds none of them, so no one lock guards every access of the variable.\n",
+        n - 1,
+    );
+    say(out, at, sentence, f)
+}
+
+pub fn say_violation(out: &mut [u8], at: usize, f: Facts, v: Violation) -> usize
+    ensures place { λ r. ⌜ r ≡ behind (length (now (out .entry))) at (violationText f v) ⌝ }
+    ensures contents { λ r. ⌜ now (out .exit) ≡ written (now (out .entry)) at (violationText f v) ⌝ }
+{
+    let kind = v.kind;
+    let begin = v.begin;
+    let commit = v.commit;
+    let p = say_kind(out, at, kind, f);
+    let q = say_block(out, p, begin, commit, f);
+    let r = say(out, q, b"  It goes wrong at @: *.\n", f);
+    say_why(out, r, kind, f)
+}
