@@ -6,7 +6,7 @@ use Rattle.frame.specs.declared.Refused.{Refused}
 use Rattle.text.specs.Text.{wordsTo}
 use Rattle.reply.specs.declared.Reply.the-variants as reply
 use Rattle.line.specs.Line.{verdictLine}
-use Rattle.sentence.specs.declared.Source.the-variants as source
+use Rattle.phrase.specs.declared.Source.the-variants as source
 use Rattle.explain.specs.Explain.{explanation}
 use Rattle.refusaltext.specs.RefusalText.{refusalText}
 use Rattle.opening.specs.declared.Opened.{Opened}

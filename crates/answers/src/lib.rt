@@ -1,11 +1,11 @@
 // The tool's verdict and its answer in words, written into a lent buffer as far as there is room; the reply is the number of bytes written.
 use explain::explain;
-use refusaltext::explain_refusal;
 use frame::Refused;
 use opening::Opened;
 use output::put_text;
+use phrase::Source;
+use refusaltext::explain_refusal;
 use reply::Reply;
-use sentence::Source;
 ghost use mathlib.Core.Path.{_≡_};
 ghost use lib.ListN.{length};
 ghost use Rattle.output.specs.Output.{behind, written};

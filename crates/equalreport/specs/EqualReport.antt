@@ -12,7 +12,7 @@ use Rattle.equal.specs.declared.EqualReply.the-variants as equal
 use Rattle.equal.specs.declared.Side.{Side}
 use Rattle.equal.specs.declared.Side.the-variants as side
 use Rattle.output.specs.Output.{bytes}
-use Rattle.sentence.specs.declared.Source.the-variants as source
+use Rattle.phrase.specs.declared.Source.the-variants as source
 use Rattle.refusaltext.specs.RefusalText.{refusalText}
 use Rattle.opening.specs.declared.Opened.{Opened}
 use Rattle.opening.specs.declared.Opened.the-variants as opened

@@ -1,11 +1,11 @@
 // The comparison of two recordings as the tool prints it, written into a lent buffer as far as there is room; the reply is the number of bytes written.
 use equal::EqualReply;
 use equal::Side;
-use refusaltext::explain_refusal;
 use frame::Refused;
 use opening::Opened;
 use output::put_text;
-use sentence::Source;
+use phrase::Source;
+use refusaltext::explain_refusal;
 use soundness::CheckReply;
 ghost use mathlib.Core.Path.{_≡_};
 ghost use lib.ListN.{length};
@@ -13,7 +13,7 @@ ghost use Rattle.text.specs.Text.{scanned};
 ghost use Rattle.soundness.specs.Soundness.{checkReply};
 ghost use Rattle.equal.specs.Equal.{equalReply};
 ghost use Rattle.output.specs.Output.{behind, written};
-ghost use Rattle.sentence.specs.declared.Source.the-variants as source;
+ghost use Rattle.phrase.specs.declared.Source.the-variants as source;
 ghost use Rattle.opening.specs.Opening.{openedRead, opening};
 ghost use Rattle.equalreport.specs.EqualReport.{equalText, rightOpened, leftChecked, equalReport};
 

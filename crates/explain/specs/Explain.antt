@@ -10,7 +10,7 @@ use Rattle.reply.specs.declared.Reply.{Reply}
 use Rattle.reply.specs.declared.Reply.the-variants as reply
 use Rattle.output.specs.Output.{bytes}
 use Rattle.sentence.specs.Sentence.{filled}
-use Rattle.sentence.specs.declared.Source.{Source}
+use Rattle.phrase.specs.declared.Source.{Source}
 use Rattle.facts.specs.Facts.{placeFacts, violationFacts}
 use Rattle.refusaltext.specs.RefusalText.{refusalText}
 use Rattle.violationtext.specs.ViolationText.{violationText}

@@ -1,8 +1,8 @@
 // Answers in words, written into a lent buffer from a place on, as far as there is room. Each function replies the place behind what it wrote.
 use frame::Refused;
+use phrase::Source;
 use reply::Reply;
 use reply::Verdict;
-use sentence::Source;
 use sentence::say;
 ghost use mathlib.Core.Path.{_≡_};
 ghost use lib.ListN.{length};

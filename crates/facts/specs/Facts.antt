@@ -5,7 +5,7 @@ use lib.ListN.{getD}
 use Rattle.reply.specs.declared.Mark.{Mark}
 use Rattle.reply.specs.declared.Mark.the-variants as mark
 use Rattle.reply.specs.declared.Violation.{Violation}
-use Rattle.sentence.specs.declared.Source.{Source}
+use Rattle.phrase.specs.declared.Source.{Source}
 use Rattle.sentence.specs.declared.Facts.{Facts}
 
 -- The place of a mark, and 0 where it is absent (no sentence shows that).

@@ -1,8 +1,8 @@
 // What is known of a place of a recording, and of a violation, for sentences to speak of.
+use phrase::Source;
 use reply::Mark;
 use reply::Violation;
 use sentence::Facts;
-use sentence::Source;
 ghost use mathlib.Core.Path.{_≡_};
 ghost use lib.ListN.{getD};
 ghost use Rattle.facts.specs.Facts.{placeOf, placeFacts, violationFacts};

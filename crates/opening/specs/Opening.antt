@@ -12,10 +12,9 @@ use Rattle.guards.specs.Guards.{guardsRead}
 use Rattle.guards.specs.declared.GuardsReply.{GuardsReply}
 use Rattle.guards.specs.declared.GuardsReply.the-variants as guards
 use Rattle.reply.specs.declared.Reply.{Reply}
-use Rattle.reply.specs.declared.Reply.the-variants as reply
 use Rattle.verdict.specs.Verdict.{declaredReply, inferredReply}
-use Rattle.sentence.specs.declared.Source.{Source}
-use Rattle.sentence.specs.declared.Source.the-variants as source
+use Rattle.phrase.specs.declared.Source.{Source}
+use Rattle.phrase.specs.declared.Source.the-variants as source
 use Rattle.opening.specs.declared.Opened.{Opened}
 use Rattle.opening.specs.declared.Opened.the-variants as opened
 

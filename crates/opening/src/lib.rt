@@ -1,12 +1,11 @@
 // A recording read, with the guard list checked before it, and judged.
 use frame::Refused;
 use guards::GuardsReply;
+use phrase::Source;
 use reply::Reply;
-use sentence::Source;
 use text::ReadReply;
 ghost use mathlib.Core.Path.{_≡_};
 ghost use Rattle.text.specs.Text.{scanned};
-ghost use Rattle.sentence.specs.declared.Source.the-variants as source;
 ghost use Rattle.opening.specs.Opening.{openedRead, listReply, opening, WordsRead, replyUnder};
 
 // A recording that is read, with its number of frames, or what is refused.

@@ -1,3 +1,2 @@
 -- Laws of written text that crates above cite.
 pub mod Laws
-pub mod Lengths

@@ -7,7 +7,7 @@ use Rattle.frame.specs.declared.Refusal.the-variants as refusal
 use Rattle.frame.specs.declared.Refused.{Refused}
 use Rattle.output.specs.Output.{bytes}
 use Rattle.sentence.specs.Sentence.{filled}
-use Rattle.sentence.specs.declared.Source.{Source}
+use Rattle.phrase.specs.declared.Source.{Source}
 use Rattle.facts.specs.Facts.{placeFacts}
 
 -- The sentence of a refusal.

@@ -1,8 +1,8 @@
 // Refusals in words.
 use frame::Refusal;
 use frame::Refused;
+use phrase::Source;
 use sentence::Facts;
-use sentence::Source;
 use sentence::say;
 ghost use mathlib.Core.Path.{_≡_};
 ghost use lib.ListN.{length};

@@ -23,13 +23,14 @@ use Rattle.equal.specs.declared.EqualReply.{EqualReply}
 use Rattle.equal.specs.declared.EqualReply.the-variants as equal
 use Rattle.equal.specs.declared.Side.the-variants as side
 use Rattle.serial.specs.Order.{serialWords}
-use Rattle.order.specs.Order.{orderReply, declaredOrder, inferredOrder, onList as orderOnList}
+use Rattle.order.specs.Order.{orderReply, declaredOrder, inferredOrder}
+use Rattle.order.specs.Order.{onList as orderOnList}
 use Rattle.line.specs.Line.{wordLine}
 use Rattle.line.proofs.Laws.{length-verdict-line, length-word-line}
 use Rattle.output.specs.Output.{bytes}
 use Rattle.output.proofs.Laws.{put-fits}
-use Rattle.sentence.specs.declared.Source.the-variants as source
-use Rattle.report.proofs.Lengths.{refusal-fits, explanation-fits}
+use Rattle.phrase.specs.declared.Source.the-variants as source
+use Rattle.report.proofs.Answers.{refusal-fits, explanation-fits}
 use Rattle.opening.specs.Opening.{openedRead, listReply, onList, opening, replyUnder}
 use Rattle.answers.specs.Answers.{verdictOpened, verdictReport, explainOpened, explainReport}
 use Rattle.serialreport.specs.SerialReport.{linesOf, orderUnder, guardsUnder, orderText, serialOpened, serialReport}

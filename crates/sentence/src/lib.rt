@@ -1,25 +1,13 @@
 // Sentences with marks in them, written into a lent buffer from a place on, as far as there is room. Each function replies the place behind
 // what it wrote.
-use frame::Action;
-use frame::Decoded;
 use output::put_byte;
 use output::put_decimal;
 use output::put_locks;
-use output::put_text;
+use phrase::Source;
 ghost use mathlib.Core.Path.{_≡_};
-ghost use mathlib.Core.List.{_++_};
 ghost use lib.ListN.{length};
-ghost use Rattle.frame.specs.Frame.{decodeWord};
-ghost use Rattle.output.specs.Output.{decimal, behind, written};
-ghost use Rattle.sentence.specs.Sentence.{sourceText, lineText, actionText, decodedText, piece, filled};
-
-// What is spoken of.
-pub enum Source {
-    Recording,
-    GuardList,
-    Left,
-    Right,
-}
+ghost use Rattle.output.specs.Output.{behind, written};
+ghost use Rattle.sentence.specs.Sentence.{piece, filled};
 
 // What a sentence can speak of: a place, its word, a thread, the block's begin and commit, the commit's word, and locks.
 pub struct Facts {
@@ -33,82 +21,21 @@ pub struct Facts {
     pub locks: u64,
 }
 
-fn put_source(out: &mut [u8], at: usize, s: Source) -> usize
-    ensures place { λ r. ⌜ r ≡ behind (length (now (out .entry))) at (sourceText s) ⌝ }
-    ensures contents { λ r. ⌜ now (out .exit) ≡ written (now (out .entry)) at (sourceText s) ⌝ }
-{
-    match s {
-        Source::Recording => put_text(out, at, b"the recording"),
-        Source::GuardList => put_text(out, at, b"the guard list"),
-        Source::Left => put_text(out, at, b"the left recording"),
-        Source::Right => put_text(out, at, b"the right recording"),
-    }
-}
-
-// A text and a number.
-fn put_named(out: &mut [u8], at: usize, text: &[u8], n: u64) -> usize
-    ensures place { λ r. ⌜ r ≡ behind (length (now (out .entry))) at (now (text .entry) ++ decimal n) ⌝ }
-    ensures contents { λ r. ⌜ now (out .exit) ≡ written (now (out .entry)) at (now (text .entry) ++ decimal n) ⌝ }
-{
-    let p = put_text(out, at, text);
-    put_decimal(out, p, n)
-}
-
-// A place as a line, counted from 1, and as a place, counted from 0.
-fn put_line(out: &mut [u8], at: usize, place: u32) -> usize
-    ensures place { λ r. ⌜ r ≡ behind (length (now (out .entry))) at (lineText place) ⌝ }
-    ensures contents { λ r. ⌜ now (out .exit) ≡ written (now (out .entry)) at (lineText place) ⌝ }
-{
-    let n = place as u64;
-    let p = put_named(out, at, b"line ", n + 1);
-    let q = put_named(out, p, b" [", n);
-    put_byte(out, q, 93)
-}
-
-fn put_action(out: &mut [u8], at: usize, a: Action) -> usize
-    ensures place { λ r. ⌜ r ≡ behind (length (now (out .entry))) at (actionText a) ⌝ }
-    ensures contents { λ r. ⌜ now (out .exit) ≡ written (now (out .entry)) at (actionText a) ⌝ }
-{
-    match a {
-        Action::Acquire(l) => put_named(out, at, b"acquire of lock ", l.0 as u64),
-        Action::Release(l) => put_named(out, at, b"release of lock ", l.0 as u64),
-        Action::Read(v) => put_named(out, at, b"read of variable ", v.0 as u64),
-        Action::Write(v) => put_named(out, at, b"write of variable ", v.0 as u64),
-        Action::Begin => put_text(out, at, b"begin"),
-        Action::End => put_text(out, at, b"end"),
-    }
-}
-
-// What a word does.
-fn put_word(out: &mut [u8], at: usize, word: u32) -> usize
-    ensures place { λ r. ⌜ r ≡ behind (length (now (out .entry))) at (decodedText (decodeWord word)) ⌝ }
-    ensures contents { λ r. ⌜ now (out .exit) ≡ written (now (out .entry)) at (decodedText (decodeWord word)) ⌝ }
-{
-    let d = frame::decode(word);
-    match d {
-        Decoded::Frame(f) => {
-            let a = f.action;
-            put_action(out, at, a)
-        }
-        Decoded::Bad(r) => put_text(out, at, b"no frame"),
-    }
-}
-
 // One byte of a sentence, or what it stands for.
 fn put_piece(out: &mut [u8], at: usize, c: u8, f: Facts) -> usize
     ensures place { λ r. ⌜ r ≡ behind (length (now (out .entry))) at (piece f c) ⌝ }
     ensures contents { λ r. ⌜ now (out .exit) ≡ written (now (out .entry)) at (piece f c) ⌝ }
 {
     match c {
-        b'@' => put_line(out, at, f.place),
-        b'<' => put_line(out, at, f.begin),
-        b'>' => put_line(out, at, f.commit),
+        b'@' => phrase::put_line(out, at, f.place),
+        b'<' => phrase::put_line(out, at, f.begin),
+        b'>' => phrase::put_line(out, at, f.commit),
         b'%' => {
             let s = f.source;
-            put_source(out, at, s)
+            phrase::put_source(out, at, s)
         }
-        b'*' => put_word(out, at, f.word),
-        b'^' => put_word(out, at, f.by),
+        b'*' => phrase::put_word(out, at, f.word),
+        b'^' => phrase::put_word(out, at, f.by),
         b'&' => put_decimal(out, at, f.thread as u64),
         b'$' => put_decimal(out, at, (f.word % 65536) as u64),
         b'~' => put_locks(out, at, f.locks),

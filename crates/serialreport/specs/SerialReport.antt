@@ -13,7 +13,7 @@ use Rattle.order.specs.Order.{declaredOrder, inferredOrder}
 use Rattle.order.specs.declared.OrderReply.{OrderReply}
 use Rattle.order.specs.declared.OrderReply.the-variants as order
 use Rattle.line.specs.Line.{wordLine}
-use Rattle.sentence.specs.declared.Source.the-variants as source
+use Rattle.phrase.specs.declared.Source.the-variants as source
 use Rattle.refusaltext.specs.RefusalText.{refusalText}
 use Rattle.opening.specs.declared.Opened.{Opened}
 use Rattle.opening.specs.declared.Opened.the-variants as opened

@@ -1,10 +1,10 @@
 // The serial order as the tool prints it, written into a lent buffer as far as there is room; the reply is the number of bytes written.
-use refusaltext::explain_refusal;
 use frame::Refused;
 use opening::Opened;
 use order::OrderReply;
 use output::put_text;
-use sentence::Source;
+use phrase::Source;
+use refusaltext::explain_refusal;
 ghost use mathlib.Core.Path.{_≡_};
 ghost use lib.ListN.{length};
 ghost use Rattle.serial.specs.Order.{serialWords};

@@ -13,11 +13,12 @@ use Rattle.frame.specs.declared.Action.the-variants as action
 use Rattle.frame.specs.declared.Decoded.{Decoded}
 use Rattle.frame.specs.declared.Decoded.the-variants as decoded
 use Rattle.output.specs.Output.{bytes}
-use Rattle.output.proofs.Lengths.{Within, wider, plain, joined, decimal-within, locks-within}
-use Rattle.sentence.specs.Sentence.{sourceText, lineText, actionText, decodedText, piece, filled}
-use Rattle.sentence.specs.declared.Source.{Source}
-use Rattle.sentence.specs.declared.Source.the-variants as source
+use Rattle.report.proofs.Texts.{Within, wider, plain, joined, decimal-within, locks-within}
+use Rattle.sentence.specs.Sentence.{piece, filled}
+use Rattle.phrase.specs.Phrase.{sourceText, lineText, actionText, decodedText}
+use Rattle.phrase.specs.declared.Source.{Source}
+use Rattle.phrase.specs.declared.Source.the-variants as source
 use Rattle.sentence.specs.declared.Facts.{Facts}
 
 source-within : (s : Source) → Within 19 (sourceText s)
 unfolding sourceText bytes

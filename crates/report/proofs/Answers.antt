@@ -19,11 +19,11 @@ use Rattle.reply.specs.declared.Verdict.the-variants as verdict
 use Rattle.reply.specs.declared.Reply.{Reply}
 use Rattle.reply.specs.declared.Reply.the-variants as reply
 use Rattle.output.specs.Output.{bytes}
-use Rattle.output.proofs.Lengths.{Within, wider, joined}
+use Rattle.report.proofs.Texts.{Within, wider, joined}
 use Rattle.sentence.specs.Sentence.{filled}
-use Rattle.sentence.specs.declared.Source.{Source}
+use Rattle.phrase.specs.declared.Source.{Source}
 use Rattle.sentence.specs.declared.Facts.{Facts}
-use Rattle.sentence.proofs.Lengths.{pieceWeight, weight, sentence-within}
+use Rattle.report.proofs.Sentences.{pieceWeight, weight, sentence-within}
 use Rattle.explain.specs.Explain.{reducibleSentence, explanation}
 use Rattle.violationtext.specs.ViolationText.{kindSentence, blockSentence, frameSentence, whySentence, violationText}
 use Rattle.refusaltext.specs.RefusalText.{refusalSentence, refusalText}

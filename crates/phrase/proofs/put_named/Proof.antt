@@ -1,8 +1,8 @@
 -- The number is written behind the text.
 use borrow.Author.Needs.{needs}
 use Rattle.output.proofs.Laws.{put-more}
-use Rattle.sentence.proofs.put_named.Statement.{statement}
-use Rattle.sentence.proofs.put_named.Tie as tie
+use Rattle.phrase.proofs.put_named.Statement.{statement}
+use Rattle.phrase.proofs.put_named.Tie as tie
 
 put-text-requires : tie.Need-put-text-requires
 put-text-requires c κs = search needs

@@ -1,9 +1,9 @@
 -- One text for each case.
 use borrow.Author.Needs.{needs}
 use Rattle.output.specs.Output.{bytes}
-use Rattle.sentence.specs.Sentence.{sourceText}
-use Rattle.sentence.proofs.put_source.Statement.{statement}
-use Rattle.sentence.proofs.put_source.Tie as tie
+use Rattle.phrase.specs.Phrase.{sourceText}
+use Rattle.phrase.proofs.put_source.Statement.{statement}
+use Rattle.phrase.proofs.put_source.Tie as tie
 
 enum-told : tie.Need-enum-told
 enum-told c = search needs

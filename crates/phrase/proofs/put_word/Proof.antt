@@ -2,9 +2,9 @@
 use mathlib.Core.Path.{sym}
 use borrow.Author.Needs.{needs}
 use Rattle.output.specs.Output.{bytes}
-use Rattle.sentence.specs.Sentence.{decodedText}
-use Rattle.sentence.proofs.put_word.Statement.{statement}
-use Rattle.sentence.proofs.put_word.Tie as tie
+use Rattle.phrase.specs.Phrase.{decodedText}
+use Rattle.phrase.proofs.put_word.Statement.{statement}
+use Rattle.phrase.proofs.put_word.Tie as tie
 
 decode-requires : tie.Need-decode-requires
 decode-requires c κs = search needs

@@ -2,9 +2,9 @@
 use borrow.Author.Needs.{needs}
 use Rattle.output.specs.Output.{bytes}
 use Rattle.output.proofs.Laws.{put-more}
-use Rattle.sentence.specs.Sentence.{lineText}
-use Rattle.sentence.proofs.put_line.Statement.{statement}
-use Rattle.sentence.proofs.put_line.Tie as tie
+use Rattle.phrase.specs.Phrase.{lineText}
+use Rattle.phrase.proofs.put_line.Statement.{statement}
+use Rattle.phrase.proofs.put_line.Tie as tie
 
 slice-aggregate-put-named : tie.Need-slice-aggregate-put-named
 slice-aggregate-put-named c = search needs

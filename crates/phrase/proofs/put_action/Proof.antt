@@ -1,9 +1,9 @@
 -- One text for each case.
 use borrow.Author.Needs.{needs}
 use Rattle.output.specs.Output.{bytes}
-use Rattle.sentence.specs.Sentence.{actionText}
-use Rattle.sentence.proofs.put_action.Statement.{statement}
-use Rattle.sentence.proofs.put_action.Tie as tie
+use Rattle.phrase.specs.Phrase.{actionText}
+use Rattle.phrase.proofs.put_action.Statement.{statement}
+use Rattle.phrase.proofs.put_action.Tie as tie
 
 enum-known-a : tie.Need-enum-known-a
 enum-known-a c = search needs

@@ -1,2 +1,0 @@
--- Laws of sentences that crates above cite.
-pub mod Lengths
