@@ -1,7 +1,8 @@
 -- Every row holds: antt computes each verdict from the definitions.
 use mathlib.Core.Path.{refl}
 use Rattle.frame.specs.Frame.{decodeParts}
-use Rattle.text.specs.Text.{digitOf, digitsValue, lineOf, wordAt, scanFrom, wordsTo}
+use Rattle.text.specs.Text.{wordAt, scanFrom, wordsTo}
+use Rattle.digits.specs.Digits.{digitOf, digitsValue, lineOf}
 use Rattle.guards.specs.Guards.{guardsFrom}
 use Rattle.soundness.specs.Soundness.{stepAction, checkFrom, start}
 use Rattle.judge.specs.Rules.{judgeOperation}

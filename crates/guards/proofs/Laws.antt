@@ -17,9 +17,10 @@ use Rattle.frame.specs.declared.Variable.{Variable}
 use Rattle.frame.specs.declared.Refused.{Refused}
 use Rattle.frame.specs.declared.Refusal.{Refusal}
 use Rattle.frame.specs.declared.Refusal.the-variants as refusal
-use Rattle.text.specs.declared.Line.{Line}
-use Rattle.text.specs.declared.Line.the-variants as line
-use Rattle.text.specs.Text.{lineOf, wordAt, linefeeds}
+use Rattle.digits.specs.declared.Line.{Line}
+use Rattle.digits.specs.declared.Line.the-variants as line
+use Rattle.text.specs.Text.{wordAt, linefeeds}
+use Rattle.digits.specs.Digits.{lineOf}
 use Rattle.text.proofs.Laws.{Accepted, ends, goes, accepted-length, accepted-linefeeds, accepted-line}
 use Rattle.guards.specs.Guards.{guardOf, guardVariable, guardLock, lines, refused, guardLine, onGuardLine, guardsFrom, noGuards, guardsRead}
 use Rattle.guards.specs.declared.Guard.{Guard}

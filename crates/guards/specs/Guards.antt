@@ -7,9 +7,9 @@ use lib.ListN.{length, getD, set, replicate}
 use lib.Dec.{ltb, leb, eqb}
 use Rattle.frame.specs.declared.Refusal.{Refusal}
 use Rattle.frame.specs.declared.Refusal.the-variants as refusal
-use Rattle.text.specs.declared.Line.{Line}
-use Rattle.text.specs.declared.Line.the-variants as line
-use Rattle.text.specs.Text.{lineOf}
+use Rattle.digits.specs.declared.Line.{Line}
+use Rattle.digits.specs.declared.Line.the-variants as line
+use Rattle.digits.specs.Digits.{lineOf}
 use Rattle.guards.specs.declared.Guard.{Guard}
 use Rattle.guards.specs.declared.Guard.the-variants.{Locked, Unprotected, Inferred}
 use Rattle.guards.specs.declared.GuardsReply.the-variants as reply

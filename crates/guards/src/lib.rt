@@ -1,11 +1,11 @@
 // Guard lists: which lock guards which variable, read into a table of codes, one for each variable.
+use digits::Line;
+use digits::digit_values;
+use digits::read_line;
 use frame::Lock;
 use frame::Refusal;
 use frame::Refused;
 use frame::Variable;
-use text::Line;
-use text::digit_values;
-use text::read_line;
 ghost use mathlib.Core.Path.{_≡_};
 ghost use Rattle.guards.specs.Guards.{guardOf, guardLine, guardsRead};
 

@@ -7,7 +7,7 @@ use Rattle.frame.specs.Refusal.{refusalNumber}
 use Rattle.frame.specs.declared.Refusal.{Refusal}
 use Rattle.frame.specs.declared.Refusal.the-variants as refusal
 use Rattle.output.specs.Output.{bytes}
-use Rattle.textlines.specs.Lines.{lineLength, lineOf}
+use Rattle.textlines.specs.Lines.{lineLength, nthLine}
 use Rattle.refusaltext.specs.RefusalText.{refusalSentence}
 
 -- the numbers count from 1
@@ -52,8 +52,8 @@ refusalLines =
     ++ (bytes (refusalSentence refusal.LineBuffer)))))))))))))))))
 
 -- the line of a number is its sentence
-pub refusal-line : (r : Refusal) → lineOf (refusalNumber r - 1) refusalLines ≡ bytes (refusalSentence r)
-unfolding bytes lineOf lineLength
+pub refusal-line : (r : Refusal) → nthLine (refusalNumber r - 1) refusalLines ≡ bytes (refusalSentence r)
+unfolding bytes nthLine lineLength
 refusal-line refusal.Line = refl
 refusal-line refusal.TooLong = refl
 refusal-line refusal.WordBuffer = refl

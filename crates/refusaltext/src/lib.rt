@@ -16,7 +16,7 @@ fn say_refusal(out: &mut [u8], at: usize, reason: Refusal, f: Facts) -> usize
     ensures contents { λ r. ⌜ now (out .exit) ≡ written (now (out .entry)) at (filled f (bytes (refusalSentence reason))) ⌝ }
 {
     let n = frame::refusal_number(reason);
-    let sentence = textlines::line_of(
+    let sentence = textlines::nth_line(
         b"refused: number 1, @ of % is not eight digits 0-9 A-F and one LF; write it so, without blanks, lower case or CR, and end the last line.\n\
             refused: number 2, % has more than 4096 lines; cut it down to 4096.\n\
             refused: number 3, the word buffer has fewer than # words; lend one for each line.\n\

@@ -11,12 +11,14 @@ use lib.Dec.{ltb, leb, eqb}
 use borrow.Author.Tests.{le-ltb, ltb-false, le-leb, lt-leb, leb-true, eqb-true, eqb-false}
 use Rattle.frame.proofs.Shared.{never, from-here, front-next}
 use Rattle.frame.specs.declared.Refusal.the-variants as refusal
-use Rattle.text.specs.Text.{Digits, value, none, digitOf, digitsValue, lineWord, lineOf, wordIn, wordAt, refused, ifLine, scanFrom, scanned, reached, wordsTo, roomReply, readReply, readWords, linefeeds}
-use Rattle.text.proofs.Digits.{word-bound}
+use Rattle.text.specs.Text.{wordIn, wordAt, refused, ifLine, scanFrom, scanned, reached, wordsTo, roomReply, readReply, readWords, linefeeds}
+use Rattle.digits.specs.Digits.{Digits, value, none, digitOf, digitsValue, lineOf}
 use Rattle.text.specs.declared.ReadReply.{ReadReply}
 use Rattle.text.specs.declared.ReadReply.the-variants as reply
-use Rattle.text.specs.declared.Line.{Line}
-use Rattle.text.specs.declared.Line.the-variants as line
+use Rattle.digits.specs.declared.Line.{Line}
+use Rattle.digits.specs.declared.Line.the-variants as line
+use Rattle.digits.proofs.Laws.{Shown, shown, line-bound}
+use Rattle.digits.proofs.Every.{at}
 
 -- the lines from line i on
 module _ (s : List ℕ) (i : ℕ) where
@@ -55,35 +57,6 @@ pub words-turn : (s ws : List ℕ) (i w : ℕ) → i < length ws → w ≡ wordA
     → set (wordsTo s i ++ drop i ws) i w ≡ wordsTo s (i + 1) ++ drop (i + 1) ws
 unfolding wordsTo
 words-turn s ws i w h e = rw (e, front-next (wordsTo s i) ws i (wordAt s i) (length-wordsTo s i) h, add-one i)
-
--- What a line shows of the bytes from `at` on: nine of them, eight digits with the word's value, and an LF.
-pub record Shown (s : List ℕ) (at w : ℕ) : Type 0 where
-  pub long : at + 9 ≤ length s
-  pub linefeed : getD s (at + 8) 0 ≡ 10
-  pub digits : digitsValue 0 (take 8 (drop at s)) ≡ value w
-
-same-word : (d : Digits) (w : ℕ) → lineWord d ≡ line.Word w → d ≡ value w
-same-word (value v) w e = let q : v ≡ w = cc in cc
-same-word none w e = never (cc)
-
-pub shown : (s : List ℕ) (at w : ℕ) → lineOf s at ≡ line.Word w → Shown s at w
-unfolding lineOf
-shown s at w e = go (ltb (length s - at) 9) refl (eqb (getD s (at + 8) 0) 10) refl
-  where
-    go : (t : Bool) → ltb (length s - at) 9 ≡ t → (u : Bool) → eqb (getD s (at + 8) 0) 10 ≡ u → Shown s at w
-    go true q u r = let f : _≡_ {A = Line} line.Malformed (line.Word w) = rw q at e in never (cc)
-    go false q false r = let f : _≡_ {A = Line} line.Malformed (line.Word w) = rw (q, r) at e in never (cc)
-    go false q true r =
-        let f : 9 ≤ length s - at = ltb-false (length s - at) 9 q in
-        record {
-          long = omega arith;
-          linefeed = eqb-true (getD s (at + 8) 0) 10 r;
-          digits = same-word (digitsValue 0 (take 8 (drop at s))) w (rw (q, r) at e);
-        }
-
--- a word is below 2^32
-pub line-bound : (s : List ℕ) (at w : ℕ) → lineOf s at ≡ line.Word w → w < 4294967296
-line-bound s at w e = let h = shown s at w e in word-bound s at w (omega arith) (h .digits)
 
 pub word-below : (s : List ℕ) (i : ℕ) → wordAt s i < 4294967296
 unfolding wordAt

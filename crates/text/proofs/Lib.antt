@@ -1,4 +1,2 @@
--- Laws of texts that crates above cite, of digits, and the one test of a table's entries.
+-- Laws of texts that crates above cite.
 pub mod Laws
-pub mod Digits
-pub mod Every

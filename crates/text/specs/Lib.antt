@@ -1,3 +1,2 @@
 -- What a reader must believe of texts. Their laws are in proofs/Laws.
 pub mod Text
-pub mod Table

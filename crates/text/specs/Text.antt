@@ -1,49 +1,17 @@
--- What a text says: its digits, its lines, the words on them, and what reading a recording's text answers and writes.
--- In this order: digits, one line, the lines of a text, the words written, the LFs of a text.
-use Prim.Native.Nat.{ℕ, zero, suc, _+_, _-_, _*_, _<_}
-use mathlib.Core.Path.{_≡_}
+-- What a text says: its lines, the words on them, and what reading a recording's text answers and writes. In this order: the lines of a text,
+-- the words written, the LFs of a text. What one line says is in crate digits.
+use Prim.Native.Nat.{ℕ, zero, suc, _+_, _*_}
 use mathlib.Core.Bool.{cond}
 use mathlib.Core.List.{List, [], _∷_, _++_}
-use lib.ListN.{length, getD, take, drop}
+use lib.ListN.{length, drop}
 use lib.Dec.{ltb, leb, eqb}
 use Rattle.frame.specs.declared.Refusal.{Refusal}
 use Rattle.frame.specs.declared.Refusal.the-variants as refusal
-use Rattle.text.specs.declared.Line.{Line}
-use Rattle.text.specs.declared.Line.the-variants as line
+use Rattle.digits.specs.declared.Line.{Line}
+use Rattle.digits.specs.declared.Line.the-variants as line
 use Rattle.text.specs.declared.ReadReply.{ReadReply}
 use Rattle.text.specs.declared.ReadReply.the-variants as reply
-
--- "digits 0-9 A-F": the value of each, and 16 for any other byte.
-unfoldable pub digitOf : ℕ → ℕ
-digitOf b = cond (ltb b 48) 16 (cond (ltb b 58) (b - 48) (cond (ltb b 65) 16 (cond (ltb b 71) (b - 55) 16)))
-
--- The value of some digits, or that one of them is none.
-pub data Digits : Type 0 where
-  value : ℕ → Digits
-  none : Digits
-
--- "eight digits 0-9 A-F, top digit first": the digits that follow those with the value v.
-unfoldable pub digitsValue : ℕ → List ℕ → Digits
-digitsValue v [] = value v
-digitsValue v (b ∷ bs) = cond (ltb 15 (digitOf b)) none (digitsValue (v * 16 + digitOf b) bs)
-
--- The value of a byte as a digit, and 2^32 where it is none.
-unfoldable pub valueOf : ℕ → ℕ
-valueOf b = cond (ltb 15 (digitOf b)) 4294967296 (digitOf b)
-
--- A table of those values.
-unfoldable pub Values : List ℕ → Type 0
-Values t = (b : ℕ) → b < 256 → getD t b 0 ≡ valueOf b
-
-abbrev pub lineWord : Digits → Line
-lineWord (value v) = line.Word v
-lineWord none = line.Malformed
-
--- "On a line it is eight digits 0-9 A-F, top digit first, then one LF": the line that starts at a byte.
-unfoldable pub lineOf : List ℕ → ℕ → Line
-lineOf s at =
-    cond (ltb (length s - at) 9) line.Malformed
-    (cond (eqb (getD s (at + 8) 0) 10) (lineWord (digitsValue 0 (take 8 (drop at s)))) line.Malformed)
+use Rattle.digits.specs.Digits.{lineOf}
 
 abbrev pub wordIn : Line → ℕ
 wordIn (line.Word w) = w

@@ -10,7 +10,7 @@ use borrow.Author.Tests.{eq-eqb, ne-eqb}
 use lib.Dec.{eqb}
 use lib.ListN.{length, take, drop, getD, drop-of-length-le, length-drop}
 use lib.Seq.{drop-cons, drop-drop}
-use Rattle.textlines.specs.Lines.{lineLength, lineOf}
+use Rattle.textlines.specs.Lines.{lineLength, nthLine}
 
 module _ (t : List ℕ) (i : ℕ) (p : i < length t) where
   -- a line ends at i
@@ -42,14 +42,14 @@ pub within : (t : List ℕ) (i : ℕ) → i ≤ length t → i + lineLength (dro
 within t i p = let h = length-bound (drop i t) in let e = length-drop i t in omega (arith, h, e, p)
 
 -- the lines behind the first
-pub next-line : (t : List ℕ) (i k : ℕ) → 0 < k → lineOf (k - 1) (drop (i + lineLength (drop i t)) t) ≡ lineOf k (drop i t)
-unfolding lineOf
+pub next-line : (t : List ℕ) (i k : ℕ) → 0 < k → nthLine (k - 1) (drop (i + lineLength (drop i t)) t) ≡ nthLine k (drop i t)
+unfolding nthLine
 next-line t i zero h = absurd (not-suc-le-zero h)
 next-line t i (suc k) h =
-    let e : suc k - 1 ≡ k = omega arith in rw e (sym (ap (lineOf k) (drop-drop (lineLength (drop i t)) i t)))
+    let e : suc k - 1 ≡ k = omega arith in rw e (sym (ap (nthLine k) (drop-drop (lineLength (drop i t)) i t)))
 
 -- the first line
-pub first-line : (t : List ℕ) (i e : ℕ) → e ≡ i + lineLength (drop i t) → take (e - i) (drop i t) ≡ lineOf 0 (drop i t)
-unfolding lineOf
+pub first-line : (t : List ℕ) (i e : ℕ) → e ≡ i + lineLength (drop i t) → take (e - i) (drop i t) ≡ nthLine 0 (drop i t)
+unfolding nthLine
 first-line t i e h =
     let d : e - i ≡ lineLength (drop i t) = omega (arith, h) in rw d

@@ -11,6 +11,6 @@ lineLength [] = 0
 lineLength (c ∷ t) = cond (eqb c 10) 1 (suc (lineLength t))
 
 -- Line n of a text, counted from 0.
-unfoldable pub lineOf : ℕ → List ℕ → List ℕ
-lineOf zero t = take (lineLength t) t
-lineOf (suc n) t = lineOf n (drop (lineLength t) t)
+unfoldable pub nthLine : ℕ → List ℕ → List ℕ
+nthLine zero t = take (lineLength t) t
+nthLine (suc n) t = nthLine n (drop (lineLength t) t)

@@ -2,7 +2,7 @@
 ghost use mathlib.Core.Path.{_≡_};
 ghost use Prim.Native.Nat.{_+_, _≤_};
 ghost use lib.ListN.{length, drop};
-ghost use Rattle.textlines.specs.Lines.{lineLength, lineOf};
+ghost use Rattle.textlines.specs.Lines.{lineLength, nthLine};
 
 // The place behind the line that starts at a place.
 fn line_end(text: &[u8], start: usize) -> usize
@@ -21,8 +21,8 @@ fn line_end(text: &[u8], start: usize) -> usize
 }
 
 // Line n, counted from 0, with its line end; nothing where the text has no such line.
-pub fn line_of(text: &[u8], n: u8) -> &[u8]
-    ensures { λ r. ⌜ now r ≡ lineOf n (now (text .entry)) ⌝ }
+pub fn nth_line(text: &[u8], n: u8) -> &[u8]
+    ensures { λ r. ⌜ now r ≡ nthLine n (now (text .entry)) ⌝ }
 {
     let mut start = 0;
     let mut k = n;

@@ -7,7 +7,7 @@ use Rattle.reply.specs.Reply.{kindNumber}
 use Rattle.reply.specs.declared.Kind.{Kind}
 use Rattle.reply.specs.declared.Kind.the-variants as kind
 use Rattle.output.specs.Output.{bytes}
-use Rattle.textlines.specs.Lines.{lineLength, lineOf}
+use Rattle.textlines.specs.Lines.{lineLength, nthLine}
 use Rattle.violationtext.specs.ViolationText.{kindSentence, whySentence}
 
 pub kind-numbered : (k : Kind) → 1 ≤ kindNumber k
@@ -30,15 +30,15 @@ whyLines =
     ++ (bytes (whySentence kind.AcquireAfterCommit)
     ++ (bytes (whySentence kind.SetEmptied))))
 
-pub kind-line : (k : Kind) → lineOf (kindNumber k - 1) kindLines ≡ bytes (kindSentence k)
-unfolding bytes lineOf lineLength
+pub kind-line : (k : Kind) → nthLine (kindNumber k - 1) kindLines ≡ bytes (kindSentence k)
+unfolding bytes nthLine lineLength
 kind-line kind.GuardNotHeld = refl
 kind-line kind.UnprotectedAfterCommit = refl
 kind-line kind.AcquireAfterCommit = refl
 kind-line kind.SetEmptied = refl
 
-pub why-line : (k : Kind) → lineOf (kindNumber k - 1) whyLines ≡ bytes (whySentence k)
-unfolding bytes lineOf lineLength
+pub why-line : (k : Kind) → nthLine (kindNumber k - 1) whyLines ≡ bytes (whySentence k)
+unfolding bytes nthLine lineLength
 why-line kind.GuardNotHeld = refl
 why-line kind.UnprotectedAfterCommit = refl
 why-line kind.AcquireAfterCommit = refl

@@ -16,7 +16,7 @@ fn say_kind(out: &mut [u8], at: usize, kind: Kind, f: Facts) -> usize
     ensures contents { λ r. ⌜ now (out .exit) ≡ written (now (out .entry)) at (filled f (bytes (kindSentence kind))) ⌝ }
 {
     let n = reply::kind_number(kind);
-    let sentence = textlines::line_of(
+    let sentence = textlines::nth_line(
         b"violation: kind 1, guard not held, by thread &.\n\
             violation: kind 2, unprotected access after commit, by thread &.\n\
             violation: kind 3, acquire after commit, by thread &.\n\
@@ -56,7 +56,7 @@ fn say_why(out: &mut [u8], at: usize, kind: Kind, f: Facts) -> usize
     ensures contents { λ r. ⌜ now (out .exit) ≡ written (now (out .entry)) at (filled f (bytes (whySentence kind))) ⌝ }
 {
     let n = reply::kind_number(kind);
-    let sentence = textlines::line_of(
+    let sentence = textlines::nth_line(
         b"  The guard of variable $ is lock ~, and thread & does not hold it: another thread may access the variable at the same time.\n\
             \x20 Variable $ has no guard: another thread may change it, or what the block accessed before, between these lines.\n\
             \x20 A block takes no lock after its commit: between these lines another thread may change what the block has read or written.\n\

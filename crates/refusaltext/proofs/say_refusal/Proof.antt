@@ -9,14 +9,14 @@ use Rattle.refusaltext.proofs.say_refusal.Tie as tie
 refusal-number-requires : tie.Need-refusal-number-requires
 refusal-number-requires c κs = search needs
 
-slice-aggregate-line-of : tie.Need-slice-aggregate-line-of
-slice-aggregate-line-of c = search needs
+slice-aggregate-nth-line : tie.Need-slice-aggregate-nth-line
+slice-aggregate-nth-line c = search needs
 
-sub-line-of : tie.Need-sub-line-of
-sub-line-of c = rw (c .before .refusal-number .ensures) (refusal-numbered (c .before .before .before .args .reason))
+sub-nth-line : tie.Need-sub-nth-line
+sub-nth-line c = rw (c .before .refusal-number .ensures) (refusal-numbered (c .before .before .before .args .reason))
 
-line-of-requires : tie.Need-line-of-requires
-line-of-requires c κs = search needs
+nth-line-requires : tie.Need-nth-line-requires
+nth-line-requires c κs = search needs
 
 say-requires : tie.Need-say-requires
 say-requires c κs = search needs
@@ -28,16 +28,16 @@ returns : tie.Need-returns
 unfolding bytes
 returns c =
     let r = c .before .before .before .before .before .before .before .before .args .reason in
-    rw (sym (refusal-line r)) (rw (c .before .before .before .before .line-of .ensures, c .before .before .before .before .before .before .refusal-number .ensures) at (c .before .before .say .ensures))
+    rw (sym (refusal-line r)) (rw (c .before .before .before .before .nth-line .ensures, c .before .before .before .before .before .before .refusal-number .ensures) at (c .before .before .say .ensures))
 
 pub say-refusal-spec : {M : Type 1} → statement M
 say-refusal-spec =
     tie.close
     (tie.spec
     refusal-number-requires
-    slice-aggregate-line-of
-    sub-line-of
-    line-of-requires
+    slice-aggregate-nth-line
+    sub-nth-line
+    nth-line-requires
     say-requires
     same-length
     returns)

@@ -9,14 +9,14 @@ use Rattle.violationtext.proofs.say_kind.Tie as tie
 kind-number-requires : tie.Need-kind-number-requires
 kind-number-requires c κs = search needs
 
-slice-aggregate-line-of : tie.Need-slice-aggregate-line-of
-slice-aggregate-line-of c = search needs
+slice-aggregate-nth-line : tie.Need-slice-aggregate-nth-line
+slice-aggregate-nth-line c = search needs
 
-sub-line-of : tie.Need-sub-line-of
-sub-line-of c = rw (c .before .kind-number .ensures) (kind-numbered (c .before .before .before .args .kind))
+sub-nth-line : tie.Need-sub-nth-line
+sub-nth-line c = rw (c .before .kind-number .ensures) (kind-numbered (c .before .before .before .args .kind))
 
-line-of-requires : tie.Need-line-of-requires
-line-of-requires c κs = search needs
+nth-line-requires : tie.Need-nth-line-requires
+nth-line-requires c κs = search needs
 
 say-requires : tie.Need-say-requires
 say-requires c κs = search needs
@@ -28,16 +28,16 @@ returns : tie.Need-returns
 unfolding bytes
 returns c =
     let r = c .before .before .before .before .before .before .before .before .args .kind in
-    rw (sym (kind-line r)) (rw (c .before .before .before .before .line-of .ensures, c .before .before .before .before .before .before .kind-number .ensures) at (c .before .before .say .ensures))
+    rw (sym (kind-line r)) (rw (c .before .before .before .before .nth-line .ensures, c .before .before .before .before .before .before .kind-number .ensures) at (c .before .before .say .ensures))
 
 pub say-kind-spec : {M : Type 1} → statement M
 say-kind-spec =
     tie.close
     (tie.spec
     kind-number-requires
-    slice-aggregate-line-of
-    sub-line-of
-    line-of-requires
+    slice-aggregate-nth-line
+    sub-nth-line
+    nth-line-requires
     say-requires
     same-length
     returns)

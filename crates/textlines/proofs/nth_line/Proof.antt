@@ -4,13 +4,13 @@ use mathlib.Core.Path.{_≡_, refl, sym, ap, _∙_}
 use native.Mathlib.Omega.{arith}
 use borrow.Author.Needs.{needs}
 use lib.ListN.{length, drop}
-use Rattle.textlines.specs.Lines.{lineLength, lineOf}
+use Rattle.textlines.specs.Lines.{lineLength, nthLine}
 use Rattle.textlines.proofs.Lines.{within, next-line, first-line}
-use Rattle.textlines.proofs.line_of.Statement.{statement}
-use Rattle.textlines.proofs.line_of.Tie as tie
+use Rattle.textlines.proofs.nth_line.Statement.{statement}
+use Rattle.textlines.proofs.nth_line.Tie as tie
 
 abbrev Inv-loop : tie.InvT-loop
-Inv-loop text n start₀ k₀ start k = (start ≤ length text) × (lineOf k (drop start text) ≡ lineOf n text)
+Inv-loop text n start₀ k₀ start k = (start ≤ length text) × (nthLine k (drop start text) ≡ nthLine n text)
 
 abbrev μ-loop : tie.MeasureT-loop
 μ-loop text n start₀ k₀ start k = k
@@ -52,10 +52,10 @@ returns c =
     let l = c .before .before .before .loop in
     let t = c .before .before .before .before .before .args .text .now in
     let k : l .k ≡ 0 = omega arith in
-    first-line t (l .start) _ (c .before .line-end2 .ensures) ∙ (ap (λ j. lineOf j (drop (l .start) t)) (sym k) ∙ l .inv .1)
+    first-line t (l .start) _ (c .before .line-end2 .ensures) ∙ (ap (λ j. nthLine j (drop (l .start) t)) (sym k) ∙ l .inv .1)
 
-pub line-of-spec : {M : Type 1} → statement M
-line-of-spec =
+pub nth-line-spec : {M : Type 1} → statement M
+nth-line-spec =
     tie.close
     (tie.spec
     Inv-loop

@@ -1,9 +1,9 @@
 -- The tests in the order of `lineOf`; eight digits by their sum.
 use borrow.Author.Tests.{lt-ltb, le-ltb, ne-eqb, eq-eqb}
-use Rattle.text.specs.Text.{lineOf}
+use Rattle.digits.specs.Digits.{lineOf}
 use borrow.Author.Needs.{needs}
-use Rattle.text.proofs.read_line.Statement.{statement}
-use Rattle.text.proofs.read_line.Tie as tie
+use Rattle.digits.proofs.read_line.Statement.{statement}
+use Rattle.digits.proofs.read_line.Tie as tie
 
 sub-if1 : tie.Need-sub-if1
 sub-if1 c = search needs

@@ -1,8 +1,8 @@
 -- The entry of the table at the byte.
 use borrow.Author.Needs.{needs}
-use Rattle.text.specs.Text.{Values}
-use Rattle.text.proofs.digit_value.Statement.{statement}
-use Rattle.text.proofs.digit_value.Tie as tie
+use Rattle.digits.specs.Digits.{Values}
+use Rattle.digits.proofs.digit_value.Statement.{statement}
+use Rattle.digits.proofs.digit_value.Tie as tie
 
 mul-result : tie.Need-mul-result
 mul-result c = search needs

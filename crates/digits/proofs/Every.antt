@@ -7,7 +7,7 @@ use Prim.Native.Nat.{ℕ, zero, suc, _+_, _<_}
 use native.Mathlib.Nat.{add-zero, zero-add, add-suc, suc-add, le-of-suc-le-suc, not-suc-le-zero}
 use lib.Dec.{T, eqb, eqb→eq}
 use lib.ListN.{length, getD}
-use Rattle.text.specs.Text.{Values, valueOf}
+use Rattle.digits.specs.Digits.{Values, valueOf}
 
 abbrev pub both : Bool → Bool → Bool
 both true b = b

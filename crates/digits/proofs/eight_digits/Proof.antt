@@ -5,9 +5,9 @@ use native.Mathlib.Omega.{arith}
 use native.Mathlib.Nat.{add-zero, sub-zero}
 use borrow.Author.Needs.{needs}
 use lib.ListN.{take, drop}
-use Rattle.text.proofs.Digits.{sumFrom, eight, sum-turn, sum-end, sum-more, value-fits, power-below}
-use Rattle.text.proofs.eight_digits.Statement.{statement}
-use Rattle.text.proofs.eight_digits.Tie as tie
+use Rattle.digits.proofs.Sums.{sumFrom, eight, sum-turn, sum-end, sum-more, value-fits, power-below}
+use Rattle.digits.proofs.eight_digits.Statement.{statement}
+use Rattle.digits.proofs.eight_digits.Tie as tie
 
 abbrev Inv-loop : tie.InvT-loop
 Inv-loop t s at v₀ k₀ v k =

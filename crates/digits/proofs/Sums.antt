@@ -11,8 +11,7 @@ use lib.Seq.{drop-cons}
 use lib.Dec.{ltb}
 use borrow.Author.Tests.{lt-ltb, le-ltb, ltb-false}
 use Rattle.frame.proofs.Shared.{never}
-use Rattle.text.specs.Text.{Digits, value, none, digitOf, valueOf, digitsValue}
-use Rattle.text.specs.Table.{digitsOfSum}
+use Rattle.digits.specs.Digits.{Digits, value, none, digitOf, valueOf, digitsValue, digitsOfSum}
 
 -- values of bytes added up after v, top digit first
 unfoldable pub sumFrom : ℕ → List ℕ → ℕ

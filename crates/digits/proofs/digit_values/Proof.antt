@@ -1,10 +1,10 @@
 -- The table's rule is one test at each of its entries, which antt computes.
 use mathlib.Core.Path.{refl}
 use borrow.Author.Needs.{needs}
-use Rattle.text.specs.Text.{valueOf, digitOf}
-use Rattle.text.proofs.Every.{values-of}
-use Rattle.text.proofs.digit_values.Statement.{statement}
-use Rattle.text.proofs.digit_values.Tie as tie
+use Rattle.digits.specs.Digits.{valueOf, digitOf}
+use Rattle.digits.proofs.Every.{values-of}
+use Rattle.digits.proofs.digit_values.Statement.{statement}
+use Rattle.digits.proofs.digit_values.Tie as tie
 
 array-write-t : tie.Need-array-write-t
 array-write-t c = search needs

@@ -1,0 +1,74 @@
+// Lines of eight digits: the value of each digit, the word of a line.
+ghost use mathlib.Core.Path.{_≡_};
+ghost use Prim.Native.Nat.{_+_, _*_, _≤_, _<_};
+ghost use lib.ListN.{length, take, drop};
+ghost use Rattle.digits.specs.Digits.{Values, valueOf, digitsValue, lineOf, digitsOfSum};
+
+// The word of a line, or that the line is not eight digits and an LF.
+pub enum Line {
+    Word(u32),
+    Malformed,
+}
+
+// The value of each byte as a digit, and 2^32 where it is none: eight of them add up to less than 2^32 exactly if all are digits.
+pub fn digit_values() -> [u64; 256]
+    ensures { λ t. ⌜ Values t ⌝ }
+{
+    let mut t = [4294967296u64; 256];
+    t[48] = 0;
+    t[49] = 1;
+    t[50] = 2;
+    t[51] = 3;
+    t[52] = 4;
+    t[53] = 5;
+    t[54] = 6;
+    t[55] = 7;
+    t[56] = 8;
+    t[57] = 9;
+    t[65] = 10;
+    t[66] = 11;
+    t[67] = 12;
+    t[68] = 13;
+    t[69] = 14;
+    t[70] = 15;
+    t
+}
+
+fn digit_value(t: &[u64; 256], b: u8) -> u64
+    requires { ⌜ Values (now t) ⌝ }
+    ensures { λ r. ⌜ r ≡ valueOf b ⌝ }
+{
+    t[b as usize]
+}
+
+// The value of eight digits, and 2^32 or more where one of the bytes is none.
+fn eight_digits(t: &[u64; 256], s: &[u8], at: usize) -> u64
+    requires { ⌜ Values (now t) ⌝ ∗ ⌜ at + 8 ≤ length (now s) ⌝ }
+    ensures { λ r. ⌜ digitsValue 0 (take 8 (drop at (now (s .entry)))) ≡ digitsOfSum r ⌝ }
+{
+    let mut v: u64 = 0;
+    let mut k: usize = 0;
+    while k < 8 {
+        v = v * 16 + digit_value(t, s[at + k]);
+        k += 1;
+    }
+    v
+}
+
+// The line that starts at a byte of the text.
+pub fn read_line(t: &[u64; 256], s: &[u8], at: usize) -> Line
+    requires { ⌜ Values (now t) ⌝ ∗ ⌜ at ≤ length (now s) ⌝ }
+    ensures { λ r. ⌜ r ≡ lineOf (now (s .entry)) at ⌝ }
+{
+    if s.len() - at < 9 {
+        return Line::Malformed;
+    }
+    if s[at + 8] != 10 {
+        return Line::Malformed;
+    }
+    let v = eight_digits(t, s, at);
+    if 4294967295 < v {
+        return Line::Malformed;
+    }
+    Line::Word(v as u32)
+}
