@@ -9,7 +9,7 @@ use Rattle.judge.specs.Rules.{judgeOperation}
 use Rattle.pass.specs.Pass.{judgeFrom, startJudging, fullSets, judgement}
 use Rattle.verdict.specs.Verdict.{declaredReply, inferredGuards, inferredReply}
 use Rattle.line.specs.Line.{byteOf, digits}
-use Rattle.trace.specs.Trace.{textJudged}
+use Rattle.answer.specs.Answer.{textJudged}
 use Rattle.exchange.specs.Pull.{pull, pullAll}
 use Rattle.serial.specs.Order.{commitFrom, commitsFrom, unitAt, unitsFrom}
 use Rattle.bench.specs.Bench.{AllRowsHold}

@@ -14,7 +14,7 @@ use Rattle.serial.specs.Order.{commits, inSerialOrder}
 use Rattle.line.specs.Line.{digits, replyFields}
 use Rattle.line.specs.declared.Fields.{Fields}
 use Rattle.verdict.specs.Verdict.{declaredReply, inferredGuards}
-use Rattle.trace.specs.Trace.{textJudged}
+use Rattle.answer.specs.Answer.{textJudged}
 
 -- The text of words: eight digits and an LF each.
 abbrev pub textOf : List ℕ → List ℕ

@@ -32,7 +32,7 @@ use Rattle.output.proofs.Laws.{put-fits}
 use Rattle.phrase.specs.declared.Source.the-variants as source
 use Rattle.report.proofs.Answers.{refusal-fits, explanation-fits}
 use Rattle.opening.specs.Opening.{openedRead, listReply, onList, opening, replyUnder}
-use Rattle.answers.specs.Answers.{verdictOpened, verdictReport, explainOpened, explainReport}
+use Rattle.verdictreport.specs.VerdictReport.{verdictOpened, verdictReport, explainOpened, explainReport}
 use Rattle.serialreport.specs.SerialReport.{linesOf, orderUnder, guardsUnder, orderText, serialOpened, serialReport}
 use Rattle.equalreport.specs.EqualReport.{equalText, rightOpened, leftChecked, leftOpened, equalReport}
 use Rattle.report.specs.Fits.{Whole, ReportsFit}

@@ -5,7 +5,7 @@ use mathlib.Core.Bool.{Bool}
 use mathlib.Core.List.{List, _++_}
 use lib.ListN.{length, drop}
 use Rattle.output.specs.Output.{behind, written}
-use Rattle.answers.specs.Answers.{verdictReport, explainReport}
+use Rattle.verdictreport.specs.VerdictReport.{verdictReport, explainReport}
 use Rattle.serialreport.specs.SerialReport.{serialReport}
 use Rattle.equalreport.specs.EqualReport.{equalReport}
 

@@ -1,18 +1,12 @@
--- Laws of the answers: the kind does not depend on the number of frames, and that number is handed on whole where it is written.
+-- Laws of the answers: the number of frames is handed on whole where it is written.
 use Prim.Native.Nat.{ℕ, _%_, _≤_}
 use mathlib.Core.Path.{_≡_, refl, ap}
 use native.Mathlib.Omega.{arith}
-use Rattle.line.specs.Line.{replyFields, verdictLine}
+use Rattle.line.specs.Line.{verdictLine}
 use Rattle.reply.specs.Reply.{reducible}
 use Rattle.reply.specs.declared.Reply.{Reply}
 use Rattle.reply.specs.declared.Reply.the-variants as reply
 use Rattle.reply.specs.declared.Verdict.the-variants as verdict
-use Rattle.trace.specs.Trace.{replyKind}
-
-pub kind-of : (r : Reply) (n : ℕ) → replyFields r n .kind ≡ replyKind r
-kind-of (reply.Refused x) n = refl
-kind-of (reply.Judged verdict.Reducible) n = refl
-kind-of (reply.Judged (verdict.Violated v)) n = refl
 
 -- the number of frames is written where it is at most 4,096
 pub frames-whole : (r : Reply) (n : ℕ) → (r ≡ reducible → n ≤ 4096) → verdictLine r (n % 4294967296) ≡ verdictLine r n

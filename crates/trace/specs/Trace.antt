@@ -1,5 +1,5 @@
 -- What the functions for C programs answer and write, from the definitions of the crates below.
-use Prim.Native.Nat.{ℕ, _+_, _*_}
+use Prim.Native.Nat.{ℕ, _+_}
 use mathlib.Core.Bool.{cond}
 use mathlib.Core.List.{List, _++_}
 use lib.Dec.{ltb}
@@ -7,20 +7,14 @@ use lib.ListN.{length, drop}
 use Rattle.frame.specs.Refusal.{refusalNumber}
 use Rattle.frame.specs.declared.Refused.{Refused}
 use Rattle.frame.specs.declared.Refusal.the-variants as refusal
-use Rattle.text.specs.Text.{scanned, wordsTo}
 use Rattle.text.specs.declared.ReadReply.{ReadReply}
 use Rattle.text.specs.declared.ReadReply.the-variants as read
 use Rattle.guards.specs.declared.GuardsReply.{GuardsReply}
 use Rattle.guards.specs.declared.GuardsReply.the-variants as guards
 use Rattle.reply.specs.declared.Reply.{Reply}
-use Rattle.reply.specs.declared.Reply.the-variants as reply
-use Rattle.line.specs.Line.{replyFields, verdictLine}
-use Rattle.verdict.specs.Verdict.{inferredReply, inferredSets}
-use Rattle.trace.specs.declared.TextJudged.{TextJudged}
-
--- A number that answers: the refusal's number in the high 32 bits and its place in the low 32; or no refusal, and the count answered.
-abbrev pub packed : Refused → ℕ
-packed r = refusalNumber (r .reason) * 4294967296 + r .place
+use Rattle.line.specs.Line.{verdictLine}
+use Rattle.verdict.specs.Verdict.{inferredSets}
+use Rattle.answer.specs.Answer.{packed, replyKind}
 
 abbrev pub readAnswer : ReadReply → ℕ
 readAnswer (read.Lines n) = n
@@ -30,10 +24,6 @@ abbrev pub guardsAnswer : GuardsReply → ℕ
 guardsAnswer (guards.Lines n) = n
 guardsAnswer (guards.Refused r) = packed r
 
--- The kind of a reply's verdict line, whatever the number of frames.
-abbrev pub replyKind : Reply → ℕ
-replyKind r = replyFields r 0 .kind
-
 -- "The C entry returns the kind as a number"; "refused by 17 it returns 91 hexadecimal": 17 where the buffer, n bytes long, is "shorter
 -- than 33 bytes", "first of all".
 abbrev pub kindAnswer : Reply → ℕ → ℕ
@@ -42,14 +32,6 @@ kindAnswer r n = cond (ltb n 33) (128 + refusalNumber refusal.LineBuffer) (reply
 -- "writes the first 33 bytes and leaves the rest; refused by 17 it writes nothing"
 abbrev pub lineAfter : Reply → ℕ → List ℕ → List ℕ
 lineAfter r frames line = cond (ltb (length line) 33) line (verdictLine r frames ++ drop 33 line)
-
--- "recording text in, one verdict line out, guards inferred"; "All lines of a text come before any of its frames."
-abbrev pub onRead : ReadReply → List ℕ → TextJudged
-onRead (read.Lines n) s = record { reply = inferredReply (wordsTo s n) 1024; frames = n }
-onRead (read.Refused r) s = record { reply = reply.Refused r; frames = 0 }
-
-unfoldable pub textJudged : List ℕ → TextJudged
-textJudged s = onRead (scanned s) s
 
 -- The table of candidate sets after the inferred verdict into a line buffer of n bytes.
 abbrev pub setsAfter : List ℕ → List ℕ → ℕ → List ℕ

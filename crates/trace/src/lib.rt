@@ -1,72 +1,19 @@
 // Functions that C programs call: the planner's entry, texts, guard lists and verdicts. Equality and the serial order are in crate traceorder:
 // apart from these, so that the judging pass is compiled into one loop here.
-use frame::Refused;
 use guards::GuardsReply;
-use reply::Reply;
 use text::ReadReply;
 ghost use mathlib.Core.Path.{_≡_};
-ghost use mathlib.Core.List.{_++_};
-ghost use Prim.Native.Nat.{_≤_};
-ghost use lib.ListN.{length, drop};
-ghost use Rattle.line.specs.Line.{verdictLine};
+ghost use lib.ListN.{length};
 ghost use Rattle.text.specs.Text.{readReply, readWords};
 ghost use Rattle.guards.specs.Guards.{guardsRead};
 ghost use Rattle.verdict.specs.Verdict.{declaredReply, inferredReply};
-ghost use Rattle.trace.specs.Trace.{packed, readAnswer, guardsAnswer, replyKind, kindAnswer, lineAfter, textJudged, setsAfter};
+ghost use Rattle.trace.specs.Trace.{readAnswer, guardsAnswer, kindAnswer, lineAfter, setsAfter};
+ghost use Rattle.answer.specs.Answer.{textJudged};
 
 // The bytes of a verdict line, and the kind where a line buffer has fewer: 80 hexadecimal plus 17.
 const LINE: usize = 33;
 
 const SHORT: u8 = 145;
-
-// The reply to a text, and its number of frames where it is read.
-pub struct TextJudged {
-    pub reply: Reply,
-    pub frames: u32,
-}
-
-// A refusal as one number.
-pub fn pack(r: Refused) -> u64
-    ensures { λ n. ⌜ n ≡ packed r ⌝ }
-{
-    let reason = r.reason;
-    let number = frame::refusal_number(reason);
-    (number as u64) * 4294967296 + (r.place as u64)
-}
-
-// The verdict line of a reply, in the first 33 bytes, and its kind.
-fn answer(line: &mut [u8], r: Reply, frames: u32) -> u8
-    requires { ⌜ 33 ≤ length (now line) ⌝ }
-    ensures kind { λ k. ⌜ k ≡ replyKind r ⌝ }
-    ensures contents { λ k. ⌜ now (line .exit) ≡ verdictLine r frames ++ drop 33 (now (line .entry)) ⌝ }
-{
-    let f = line::reply_fields(r, frames);
-    let l = line::fields_line(f);
-    line::put_line(line, l);
-    f.kind
-}
-
-// The verdict on a text, guards inferred.
-fn judge_text(text: &[u8]) -> TextJudged
-    ensures { λ r. ⌜ r ≡ textJudged (now (text .entry)) ⌝ }
-{
-    let mut words = [0u32; 4096];
-    let q = text::read_into(text, &mut words);
-    match q {
-        ReadReply::Lines(n) => {
-            let k = n as usize;
-            let r = verdict::inferred_reply(&words[..k]);
-            TextJudged {
-                reply: r,
-                frames: n,
-            }
-        }
-        ReadReply::Refused(x) => TextJudged {
-            reply: Reply::Refused(x),
-            frames: 0,
-        },
-    }
-}
 
 // The planner's entry: recording text in, verdict line out, guards inferred.
 #[no_mangle]
@@ -77,9 +24,9 @@ pub extern "C" fn trace_check(text: &[u8], line: &mut [u8]) -> u8
     if line.len() < LINE {
         return SHORT;
     }
-    let j = judge_text(text);
+    let j = answer::judge_text(text);
     let r = j.reply;
-    answer(line, r, j.frames)
+    answer::answer(line, r, j.frames)
 }
 
 // A recording's text read into words.
@@ -91,7 +38,7 @@ pub extern "C" fn trace_read(text: &[u8], words: &mut [u32]) -> u64
     let q = text::read_recording(text, words);
     match q {
         ReadReply::Lines(n) => n as u64,
-        ReadReply::Refused(x) => pack(x),
+        ReadReply::Refused(x) => answer::pack(x),
     }
 }
 
@@ -104,7 +51,7 @@ pub extern "C" fn trace_guards(list: &[u8]) -> u64
     let q = g.reply;
     match q {
         GuardsReply::Lines(n) => n as u64,
-        GuardsReply::Refused(x) => pack(x),
+        GuardsReply::Refused(x) => answer::pack(x),
     }
 }
 
@@ -118,7 +65,7 @@ pub extern "C" fn trace_declared(list: &[u8], words: &[u32], line: &mut [u8]) ->
         return SHORT;
     }
     let r = verdict::declared(list, words);
-    answer(line, r, (words.len() % 4294967296) as u32)
+    answer::answer(line, r, (words.len() % 4294967296) as u32)
 }
 
 // The verdict with inferred guards, and the candidate sets.
@@ -133,5 +80,5 @@ pub extern "C" fn trace_inferred(words: &[u32], sets: &mut [u64], line: &mut [u8
         return SHORT;
     }
     let judged = verdict::inferred(words, sets);
-    answer(line, judged, (words.len() % 4294967296) as u32)
+    answer::answer(line, judged, (words.len() % 4294967296) as u32)
 }

@@ -14,8 +14,8 @@ fn pack_side(side: Side, r: Refused) -> u64
     ensures { λ n. ⌜ n ≡ packedSide side r ⌝ }
 {
     match side {
-        Side::Left => trace::pack(r),
-        Side::Right => trace::pack(r) + 1099511627776,
+        Side::Left => answer::pack(r),
+        Side::Right => answer::pack(r) + 1099511627776,
     }
 }
 
@@ -37,7 +37,7 @@ fn pack_order(q: OrderReply) -> u64
 {
     match q {
         OrderReply::Written(n) => n as u64,
-        OrderReply::Refused(x) => trace::pack(x),
+        OrderReply::Refused(x) => answer::pack(x),
     }
 }
 

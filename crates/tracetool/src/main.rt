@@ -73,7 +73,7 @@ fn answer(c: Command, declared: bool, list: &[u8], text: &[u8]) {
     let mut out = [0u8; 36864];
     match c {
         Command::Verdict => {
-            let n = answers::verdict_report(declared, list, text, &mut out);
+            let n = verdictreport::verdict_report(declared, list, text, &mut out);
             print(&out[..n]);
         }
         Command::Serial => {
@@ -81,7 +81,7 @@ fn answer(c: Command, declared: bool, list: &[u8], text: &[u8]) {
             print(&out[..n]);
         }
         _ => {
-            let n = answers::explain_report(declared, list, text, &mut out);
+            let n = verdictreport::explain_report(declared, list, text, &mut out);
             print(&out[..n]);
         }
     }

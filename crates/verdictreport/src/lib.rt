@@ -10,7 +10,7 @@ ghost use mathlib.Core.Path.{_≡_};
 ghost use lib.ListN.{length};
 ghost use Rattle.output.specs.Output.{behind, written};
 ghost use Rattle.opening.specs.Opening.{opening};
-ghost use Rattle.answers.specs.Answers.{verdictReport, explainReport};
+ghost use Rattle.verdictreport.specs.VerdictReport.{verdictReport, explainReport};
 
 // The verdict line.
 pub fn verdict_report(declared: bool, list: &[u8], text: &[u8], out: &mut [u8]) -> usize

@@ -3,8 +3,8 @@ use mathlib.Core.Path.{sym, _∙_}
 use borrow.Author.Needs.{needs}
 use lib.Seq.{length-take-le}
 use Rattle.opening.proofs.Laws.{words-read}
-use Rattle.answers.proofs.explain_report.Statement.{statement}
-use Rattle.answers.proofs.explain_report.Tie as tie
+use Rattle.verdictreport.proofs.explain_report.Statement.{statement}
+use Rattle.verdictreport.proofs.explain_report.Tie as tie
 
 open-recording-requires : tie.Need-open-recording-requires
 open-recording-requires c κs = search needs

@@ -1,2 +1,2 @@
 -- What a reader must believe.
-pub mod Answers
+pub mod VerdictReport

@@ -2,10 +2,10 @@ use mathlib.Core.Path.{sym, _∙_}
 use lib.ListN.{replicate}
 use lib.Seq.{length-take-le}
 use Rattle.text.proofs.Laws.{after-into}
-use Rattle.trace.specs.Trace.{textJudged}
+use Rattle.answer.specs.Answer.{textJudged}
 use borrow.Author.Needs.{needs}
-use Rattle.trace.proofs.judge_text.Statement.{statement}
-use Rattle.trace.proofs.judge_text.Tie as tie
+use Rattle.answer.proofs.judge_text.Statement.{statement}
+use Rattle.answer.proofs.judge_text.Tie as tie
 
 slice-aggregate-read-into : tie.Need-slice-aggregate-read-into
 slice-aggregate-read-into c = search needs

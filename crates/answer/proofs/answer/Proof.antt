@@ -1,9 +1,9 @@
 use mathlib.Core.Path.{ap, _∙_}
 use Rattle.line.specs.declared.Fields.{Fields}
-use Rattle.trace.proofs.Laws.{kind-of}
+use Rattle.answer.proofs.Laws.{kind-of}
 use borrow.Author.Needs.{needs}
-use Rattle.trace.proofs.answer.Statement.{statement}
-use Rattle.trace.proofs.answer.Tie as tie
+use Rattle.answer.proofs.answer.Statement.{statement}
+use Rattle.answer.proofs.answer.Tie as tie
 
 reply-fields-requires : tie.Need-reply-fields-requires
 reply-fields-requires c κs = search needs

@@ -1,0 +1,2 @@
+-- Laws of what the functions for C programs share.
+mod Laws

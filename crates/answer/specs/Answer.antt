@@ -1,0 +1,29 @@
+-- A refusal as one number, the kind of a reply, the verdict on a text.
+use Prim.Native.Nat.{ℕ, _+_, _*_}
+use mathlib.Core.List.{List}
+use Rattle.frame.specs.Refusal.{refusalNumber}
+use Rattle.frame.specs.declared.Refused.{Refused}
+use Rattle.text.specs.Text.{scanned, wordsTo}
+use Rattle.text.specs.declared.ReadReply.{ReadReply}
+use Rattle.text.specs.declared.ReadReply.the-variants as read
+use Rattle.reply.specs.declared.Reply.{Reply}
+use Rattle.reply.specs.declared.Reply.the-variants as reply
+use Rattle.line.specs.Line.{replyFields}
+use Rattle.verdict.specs.Verdict.{inferredReply}
+use Rattle.answer.specs.declared.TextJudged.{TextJudged}
+
+-- A number that answers: the refusal's number in the high 32 bits and its place in the low 32; or no refusal, and the count answered.
+abbrev pub packed : Refused → ℕ
+packed r = refusalNumber (r .reason) * 4294967296 + r .place
+
+-- The kind of a reply's verdict line, whatever the number of frames.
+abbrev pub replyKind : Reply → ℕ
+replyKind r = replyFields r 0 .kind
+
+-- "recording text in, one verdict line out, guards inferred"; "All lines of a text come before any of its frames."
+abbrev pub onRead : ReadReply → List ℕ → TextJudged
+onRead (read.Lines n) s = record { reply = inferredReply (wordsTo s n) 1024; frames = n }
+onRead (read.Refused r) s = record { reply = reply.Refused r; frames = 0 }
+
+unfoldable pub textJudged : List ℕ → TextJudged
+textJudged s = onRead (scanned s) s
