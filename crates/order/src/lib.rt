@@ -54,7 +54,7 @@ fn order(words: &[u32], guards: &[u8; 1024], out: &mut [u32]) -> OrderReply
     if is_irreducible(r) {
         return refusal(r);
     }
-    let open = serial::first_open(walk::end_marks(words, guards));
+    let open = serial::first_open(endmarks::end_marks(words, guards));
     if let Mark::At(b) = open {
         return OrderReply::Refused(Refused {
             reason: Refusal::OpenBlock,

@@ -5,7 +5,7 @@ use mathlib.Core.List.{List, [], _∷_, _++_, append-assoc, append-nil}
 use native.Mathlib.Omega.{arith}
 use native.Mathlib.Numerals.{add-one}
 use lib.ListN.{length, take, drop, set, length-set, length-append, length-drop, take-append-drop}
-use lib.Seq.{take-suc-set, drop-set-lt, append-snoc, drop-drop, drop-at, take-at, length-take-le}
+use lib.Seq.{take-suc-set, drop-set-lt, append-snoc, drop-drop, drop-at, take-at, take-all, length-take-le}
 use lib.ListN.{drop-of-length-le}
 
 -- of the words whole, the first n stand at the front of out, the words rest are still to come, and behind n out is as it was
@@ -43,30 +43,43 @@ written-one {out₀} {out} {whole} {rest} {n} {x} w h = record {
   behind = drop-set-lt (n + 1) out n x (omega arith) ∙ sym (drop-drop 1 n out) ∙ ap (drop 1) (w .behind) ∙ drop-drop 1 n out₀;
 }
 
--- a part behind n was lent, and what was to come first now stands at its front
-module _ (xs rest : List ℕ) {out₀ out whole ys : List ℕ} {n m : ℕ} (w : Written out₀ out n whole (xs ++ rest)) (h : length whole ≤ length out₀) (em : m ≡ length xs)
-    (ey : ys ≡ xs ++ drop m (drop n out)) where
-  fits : n + m ≤ length out
+-- what was to come first is written behind n
+module _ (xs rest : List ℕ) {out₀ out out′ whole : List ℕ} {n m : ℕ} (w : Written out₀ out n whole (xs ++ rest)) (h : length whole ≤ length out₀) (em : m ≡ n + length xs)
+    (eo : out′ ≡ take n out ++ (xs ++ drop m out)) where
+  fits : m ≤ length out
   fits = omega (arith, room w h, length-append xs rest)
 
-  head-long : length (take n out ++ xs) ≡ n + m
+  head-long : length (take n out ++ xs) ≡ m
   head-long = length-append (take n out) xs ∙ omega (arith, length-take-le n out (w .within))
 
-  laid : take n out ++ (ys ++ drop (length out - n) (drop n out)) ≡ (take n out ++ xs) ++ drop m (drop n out)
-  laid =
-      ap (λ (l : List ℕ). take n out ++ (ys ++ l)) (drop-of-length-le (drop n out) {i = length out - n} (omega (arith, length-drop n out)))
-      ∙ ap (λ (l : List ℕ). take n out ++ l) (append-nil ys ∙ ey) ∙ sym (append-assoc (take n out) xs (drop m (drop n out)))
+  behind-more : drop m out ≡ drop m out₀
+  behind-more = rw em (sym (drop-drop (length xs) n out) ∙ ap (drop (length xs)) (w .behind) ∙ drop-drop (length xs) n out₀)
 
-  at-laid : Written out₀ ((take n out ++ xs) ++ drop m (drop n out)) (n + m) whole rest
+  at-laid : Written out₀ ((take n out ++ xs) ++ drop m out) m whole rest
   at-laid = record {
-    long = length-append (take n out ++ xs) (drop m (drop n out)) ∙ omega (arith, head-long, fits, length-drop m (drop n out), length-drop n out, w .long);
-    within = omega (arith, length-append (take n out ++ xs) (drop m (drop n out)), head-long);
-    front = w .front ∙ sym (append-assoc (take n out) xs rest) ∙ ap (λ (l : List ℕ). l ++ rest) (sym (take-at (take n out ++ xs) (drop m (drop n out)) (n + m) head-long));
-    behind = drop-at (take n out ++ xs) (drop m (drop n out)) (n + m) head-long ∙ ap (drop m) (w .behind) ∙ drop-drop m n out₀;
+    long = length-append (take n out ++ xs) (drop m out) ∙ omega (arith, head-long, fits, length-drop m out, w .long);
+    within = omega (arith, length-append (take n out ++ xs) (drop m out), head-long);
+    front = w .front ∙ sym (append-assoc (take n out) xs rest) ∙ ap (λ (l : List ℕ). l ++ rest) (sym (take-at (take n out ++ xs) (drop m out) m head-long));
+    behind = drop-at (take n out ++ xs) (drop m out) m head-long ∙ behind-more;
   }
 
-  pub written-part : Written out₀ (take n out ++ (ys ++ drop (length out - n) (drop n out))) (n + m) whole rest
-  written-part = subst (λ (l : List ℕ). Written out₀ l (n + m) whole rest) (sym laid) at-laid
+  pub written-more : Written out₀ out′ m whole rest
+  written-more = subst (λ (l : List ℕ). Written out₀ l m whole rest) (sym (eo ∙ sym (append-assoc (take n out) xs (drop m out)))) at-laid
+
+-- the part behind a place was lent, and xs stands at its front
+module _ (xs out : List ℕ) (at : ℕ) where
+  lent : take (length out - at) (drop at out) ≡ drop at out
+  lent = take-all (length out - at) (drop at out) (omega (arith, length-drop at out))
+
+  pub lent-fits : at + length xs ≤ length out → length xs ≤ length (take (length out - at) (drop at out))
+  lent-fits h = rw lent (omega (arith, length-drop at out))
+
+  pub lent-part : (m : ℕ) {ys : List ℕ} → ys ≡ xs ++ drop m (take (length out - at) (drop at out))
+      → take at out ++ (ys ++ drop (length out - at) (drop at out)) ≡ take at out ++ (xs ++ drop (at + m) out)
+  lent-part m {ys} e =
+      ap (λ (l : List ℕ). take at out ++ (ys ++ l)) (drop-of-length-le (drop at out) {i = length out - at} (omega (arith, length-drop at out)))
+      ∙ ap (λ (l : List ℕ). take at out ++ l)
+      (append-nil ys ∙ e ∙ ap (λ (l : List ℕ). xs ++ drop m l) lent ∙ ap (λ (l : List ℕ). xs ++ l) (drop-drop m at out))
 
 -- all is written
 pub written-whole : {out₀ out whole : List ℕ} {n : ℕ} → Written out₀ out n whole [] → out ≡ whole ++ drop (length whole) out₀

@@ -6,11 +6,11 @@ use reply::Mark;
 ghost use mathlib.Core.Path.{_≡_};
 ghost use mathlib.Core.Bool.{cond};
 ghost use mathlib.Core.List.{_++_};
-ghost use Prim.Native.Nat.{_≤_};
-ghost use lib.ListN.{length, drop};
+ghost use Prim.Native.Nat.{_+_, _≤_};
+ghost use lib.ListN.{length, take, drop};
 ghost use Rattle.judge.specs.Rules.{phaseOf};
 ghost use Rattle.serial.specs.Order.{settled};
-ghost use Rattle.serial.specs.Walk.{ownFrame, unitOf, unitStart, earlier, firstOpenFrom};
+ghost use Rattle.serial.specs.Walk.{ownFrame, unitOf, unitIn, unitStart, earlier, firstOpenFrom};
 
 // A frame seen by a thread: its own, with the depth after it, or another's.
 pub enum Own {
@@ -58,7 +58,7 @@ fn own_frame(d: Decoded, t: Thread, depth: u8) -> Own
 }
 
 // The frames of the unit of thread t that starts at a place, copied to the front of out.
-pub fn write_unit(words: &[u32], begin: usize, t: Thread, out: &mut [u32]) -> usize
+fn write_unit(words: &[u32], begin: usize, t: Thread, out: &mut [u32]) -> usize
     requires { ⌜ length (unitOf (now words) begin t) ≤ length (now out) ⌝ }
     ensures count { λ r. ⌜ r ≡ length (unitOf (now (words .entry)) begin t) ⌝ }
     ensures contents { λ r. ⌜ now (out .exit) ≡ unitOf (now (words .entry)) begin t ++ drop r (now (out .entry)) ⌝ }
@@ -80,6 +80,20 @@ pub fn write_unit(words: &[u32], begin: usize, t: Thread, out: &mut [u32]) -> us
         }
     }
     n
+}
+
+// The unit of thread t that starts at a mark, copied to out from a place on; the place behind it. Where the mark is absent there is none.
+pub fn write_at(words: &[u32], start: Mark, t: Thread, out: &mut [u32], at: usize) -> usize
+    requires { ⌜ at + length (unitIn start (now words) t) ≤ length (now out) ⌝ }
+    ensures place { λ r. ⌜ r ≡ at + length (unitIn start (now (words .entry)) t) ⌝ }
+    ensures contents { λ r. ⌜ now (out .exit) ≡ take at (now (out .entry)) ++ (unitIn start (now (words .entry)) t ++ drop r (now (out .entry))) ⌝ }
+{
+    let Mark::At(b) = start else {
+        return at;
+    };
+    let from = b as usize;
+    let n = write_unit(words, from, t, &mut out[at..]);
+    at + n
 }
 
 // Whether a thread is outside or after commit.

@@ -1,2 +1,2 @@
--- Walks: the loops over a recording.
-pub mod Walks
+-- Walks: the loop of `write_order`.
+mod Walks

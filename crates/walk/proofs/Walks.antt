@@ -1,13 +1,13 @@
--- The loops over a recording: one turn of the walk to the end, and of the walk that writes units.
+-- Where the walk that writes units stands, and the ways that its turn can go.
 use Prim.Native.Nat.{ℕ, _+_, _-_, _<_, _≤_}
-use mathlib.Core.Path.{_≡_, refl, ap, _∙_, subst}
+use mathlib.Core.Path.{_≡_, refl, subst}
 use mathlib.Core.Bool.{Bool, true, false}
 use mathlib.Core.List.{List, [], _++_}
 use native.Mathlib.Omega.{arith}
 use native.Mathlib.Numerals.{add-one}
 use lib.Dec.{eqb}
-use lib.ListN.{length, getD, take, drop, replicate, drop-of-length-le, length-append, length-drop}
-use lib.Seq.{drop-cons, take-all}
+use lib.ListN.{length, getD, take, drop, replicate, drop-of-length-le, length-append}
+use lib.Seq.{drop-cons}
 use Rattle.frame.specs.Frame.{decodeWord}
 use Rattle.frame.proofs.Laws.{decoded-in-range}
 use Rattle.frame.specs.declared.Frame.{Frame}
@@ -16,7 +16,6 @@ use Rattle.frame.specs.declared.Decoded.the-variants as decoded
 use Rattle.soundness.specs.Soundness.{State, stateOf, stepped, stepFrame, start}
 use Rattle.soundness.specs.declared.Outcome.the-variants as outcome
 use Rattle.reply.specs.declared.Mark.{Mark}
-use Rattle.reply.specs.declared.Mark.the-variants.{At, Absent}
 use Rattle.reply.specs.declared.Violation.{Violation}
 use Rattle.reply.specs.declared.Verdict.{Verdict}
 use Rattle.reply.specs.declared.Verdict.the-variants as verdict
@@ -26,56 +25,12 @@ use Rattle.judge.specs.declared.Operation.{Operation}
 use Rattle.pass.specs.Pass.{judgeFrame, startJudging, fullSets}
 use Rattle.pass.proofs.Turn.{Follows, none-held, frame-follows, frame-judged}
 use Rattle.serial.specs.Order.{Point, settled}
-use Rattle.serial.specs.Walk.{unitOf, unitStart, unitIn, walkFrom, walkWords, endFrom, endPoint}
-use Rattle.serial.proofs.Written.{Written, written-none, written-part, room}
+use Rattle.serial.specs.Walk.{unitStart, unitIn, walkFrom, walkWords}
+use Rattle.serial.proofs.Written.{Written, written-none, written-more, room}
 
 abbrev pub pointOf : List ℕ → List ℕ → List ℕ → List ℕ → List ℕ → Point
 pointOf o d b c s = record { state = stateOf o d; judging = judgingOf b c s }
 
--- The walk to the end.
-pub record EndInv (words guards owners depths hs begins commits sets : List ℕ) (i : ℕ) : Type 0 where
-  pub within : i ≤ length words
-  pub follows : Follows hs owners
-  pub rest : endPoint guards words ≡ endFrom guards i (pointOf owners depths begins commits sets) (drop i words)
-
-pub end-begins : (words guards : List ℕ) → EndInv words guards (replicate 64 0) (replicate 32 0) (replicate 32 0) (replicate 32 0) (replicate 32 0) (replicate 1024 18446744073709551615) 0
-unfolding start startJudging fullSets
-end-begins words guards = record { within = omega arith; follows = none-held; rest = refl }
-
-module _ {words guards owners depths hs begins commits sets : List ℕ} {i : ℕ} (inv : EndInv words guards owners depths hs begins commits sets i) where
-  pub end-done : length words ≤ i → endPoint guards words ≡ pointOf owners depths begins commits sets
-  unfolding endFrom
-  end-done h = inv .rest ∙ rw (drop-of-length-le words h)
-
-  module _ (h : i < length words) where
-    pub end-bad : {r : Refusal} → decodeWord (getD words i 0) ≡ decoded.Bad r → endPoint guards words ≡ pointOf owners depths begins commits sets
-    unfolding endFrom
-    end-bad e = inv .rest ∙ rw (drop-cons words i 0 h, e)
-
-    module _ {f : Frame} (e : decodeWord (getD words i 0) ≡ decoded.Frame f) {n : State} where
-      pub end-fail : {r : Refusal} → stepFrame f (stateOf owners depths) ≡ stepped (outcome.Bad r) n → endPoint guards words ≡ record { state = n; judging = judgingOf begins commits sets }
-      unfolding endFrom
-      end-fail g = inv .rest ∙ rw (drop-cons words i 0 h, e, g)
-
-      module _ (g : stepFrame f (stateOf owners depths) ≡ stepped outcome.Next n) {o : Operation} (oe : o ≡ operationOf guards (f .action)) {v : Verdict} {k : Judging}
-          (a : judgeOperation i (f .thread) (getD depths (f .thread .0) 0) (getD hs (f .thread .0) 0) o (judgingOf begins commits sets) ≡ judged v k) where
-        end-judged : judgeFrame guards i f (stateOf owners depths) (judgingOf begins commits sets) ≡ judged v k
-        end-judged = frame-judged guards depths (inv .follows) (decoded-in-range _ _ e) i (judgingOf begins commits sets) oe a
-
-        pub end-wrong : {x : Violation} → v ≡ verdict.Violated x → endPoint guards words ≡ record { state = n; judging = k }
-        unfolding endFrom
-        end-wrong q = inv .rest ∙ rw (drop-cons words i 0 h, e, g, end-judged, q)
-
-        pub end-next : {hs′ : List ℕ} → v ≡ verdict.Reducible → hs′ ≡ holding v (f .thread .0) o hs
-            → EndInv words guards (n .owners) (n .depths) hs′ (k .begins) (k .commits) (k .sets) (i + 1)
-        unfolding endFrom
-        end-next q u = record {
-          within = omega arith;
-          follows = frame-follows guards depths (inv .follows) (decoded-in-range _ _ e) g oe q u;
-          rest = inv .rest ∙ rw (drop-cons words i 0 h, e, g, end-judged, q, add-one i);
-        }
-
--- The walk that writes units.
 settled-begin : (d b c : ℕ) → settled (phaseOf d b c) ≡ settled (phaseOf d 0 c)
 settled-begin d b c = go (eqb d 0) refl (eqb c 0) refl
   where
@@ -137,28 +92,14 @@ module _ {words guards out₀ out owners depths hs begins commits sets : List �
           came : Written out₀ out at (walkWords guards words) (unitIn m words (f .thread) ++ walkFrom guards words (i + 1) (record { state = n; judging = k }) (drop (i + 1) words))
           came = subst (λ (l : List ℕ). Written out₀ out at (walkWords guards words) l) turn (inv .written)
 
-          pub walk-none : m ≡ Absent → WalkInv words guards out₀ out (n .owners) (n .depths) hs′ (k .begins) (k .commits) (k .sets) at (i + 1)
-          walk-none z = record { within = omega arith; follows = frame-follows guards depths (inv .follows) (decoded-in-range _ _ e) g oe q u; written = rw z at came }
+          module _ (r : length (walkWords guards words) ≤ length out₀) where
+            pub unit-room : at + length (unitIn m words (f .thread)) ≤ length out
+            unit-room = omega (arith, room came r, length-append (unitIn m words (f .thread)) (walkFrom guards words (i + 1) (record { state = n; judging = k }) (drop (i + 1) words)))
 
-          module _ {b : ℕ} (z : m ≡ At b) (r : length (walkWords guards words) ≤ length out₀) where
-            to-come : Written out₀ out at (walkWords guards words) (unitOf words b (f .thread) ++ walkFrom guards words (i + 1) (record { state = n; judging = k }) (drop (i + 1) words))
-            to-come = rw z at came
-
-            pub unit-room : at + length (unitOf words b (f .thread)) ≤ length out
-            unit-room = omega (arith, room to-come r, length-append (unitOf words b (f .thread)) (walkFrom guards words (i + 1) (record { state = n; judging = k }) (drop (i + 1) words)))
-
-            -- the part that is lent is all that stands behind the place
-            lent : take (length out - at) (drop at out) ≡ drop at out
-            lent = take-all (length out - at) (drop at out) (omega (arith, length-drop at out))
-
-            pub unit-fits : length (unitOf words b (f .thread)) ≤ length (take (length out - at) (drop at out))
-            unit-fits = rw lent (omega (arith, unit-room, length-drop at out))
-
-            pub walk-writes : {c : ℕ} {ys : List ℕ} → c ≡ length (unitOf words b (f .thread)) → ys ≡ unitOf words b (f .thread) ++ drop c (take (length out - at) (drop at out))
-                → WalkInv words guards out₀ (take at out ++ (ys ++ drop (length out - at) (drop at out))) (n .owners) (n .depths) hs′ (k .begins) (k .commits) (k .sets) (at + c) (i + 1)
-            walk-writes {c} em ey = record {
+            pub walk-writes : {c : ℕ} {out′ : List ℕ} → c ≡ at + length (unitIn m words (f .thread)) → out′ ≡ take at out ++ (unitIn m words (f .thread) ++ drop c out)
+                → WalkInv words guards out₀ out′ (n .owners) (n .depths) hs′ (k .begins) (k .commits) (k .sets) c (i + 1)
+            walk-writes ec eo = record {
               within = omega arith;
               follows = frame-follows guards depths (inv .follows) (decoded-in-range _ _ e) g oe q u;
-              written = written-part (unitOf words b (f .thread)) (walkFrom guards words (i + 1) (record { state = n; judging = k }) (drop (i + 1) words)) to-come r em
-                  (ey ∙ ap (λ (l : List ℕ). unitOf words b (f .thread) ++ drop c l) lent);
+              written = written-more (unitIn m words (f .thread)) (walkFrom guards words (i + 1) (record { state = n; judging = k }) (drop (i + 1) words)) came r ec eo;
             }

@@ -1,71 +1,12 @@
-// The serial order of a recording, written unit by unit: a walk that copies each unit where it commits. Also the threads at the end.
+// The serial order of a recording, written unit by unit: a walk that copies each unit where it commits.
 use frame::Decoded;
-use reply::Mark;
 use reply::Verdict;
-use serial::Marks;
 use soundness::Outcome;
 ghost use mathlib.Core.Path.{_≡_};
 ghost use mathlib.Core.List.{_++_};
 ghost use Prim.Native.Nat.{_≤_};
 ghost use lib.ListN.{length, drop};
-ghost use Rattle.serial.specs.Walk.{walkWords, endPoint};
-
-// The threads at the end of a recording.
-pub fn end_marks(words: &[u32], guards: &[u8; 1024]) -> Marks
-    requires { ⌜ length (now words) ≤ 4096 ⌝ }
-    ensures depths { λ r. ⌜ r .depths ≡ endPoint (now (guards .entry)) (now (words .entry)) .state .depths ⌝ }
-    ensures begins { λ r. ⌜ r .begins ≡ endPoint (now (guards .entry)) (now (words .entry)) .judging .begins ⌝ }
-{
-    let mut owners = [0u8; 64];
-    let mut depths = [0u8; 32];
-    let mut held = [0u64; 32];
-    let mut begins = [0u32; 32];
-    let mut commits = [0u32; 32];
-    let mut sets = [18446744073709551615u64; 1024];
-    let mut i: usize = 0;
-    while i < words.len() {
-        let d = frame::decode(words[i]);
-        let Decoded::Frame(f) = d else {
-            return Marks {
-                depths: depths,
-                begins: begins,
-            };
-        };
-        let thread = f.thread;
-        let t = thread.0 as usize;
-        let depth = depths[t];
-        let o = soundness::step(&mut owners, &mut depths, f);
-        let Outcome::Next = o else {
-            return Marks {
-                depths: depths,
-                begins: begins,
-            };
-        };
-        let a = f.action;
-        let op = judge::operation_of(guards, a);
-        let v = judge::judge(
-            &mut held,
-            &mut begins,
-            &mut commits,
-            &mut sets,
-            depth,
-            i as u32,
-            thread,
-            op,
-        );
-        let Verdict::Reducible = v else {
-            return Marks {
-                depths: depths,
-                begins: begins,
-            };
-        };
-        i += 1;
-    }
-    Marks {
-        depths: depths,
-        begins: begins,
-    }
-}
+ghost use Rattle.serial.specs.Walk.{walkWords};
 
 // The units of a recording, each written where the one before stopped.
 pub fn write_order(words: &[u32], guards: &[u8; 1024], out: &mut [u32])
@@ -110,11 +51,7 @@ pub fn write_order(words: &[u32], guards: &[u8; 1024], out: &mut [u32])
             return;
         };
         let start = serial::unit_start(depth, begin, commit, depths[t], commits[t], i as u32);
+        at = serial::write_at(words, start, thread, out, at);
         i += 1;
-        if let Mark::At(b) = start {
-            let from = b as usize;
-            let n = serial::write_unit(words, from, thread, &mut out[at..]);
-            at += n;
-        }
     }
 }

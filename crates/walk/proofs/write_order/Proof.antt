@@ -7,15 +7,17 @@ use lib.ListN.{length}
 use Rattle.frame.proofs.Laws.{decoded-in-range}
 use Rattle.serial.proofs.Written.{written-whole}
 use Rattle.pass.proofs.Turn.{frame-held}
-use Rattle.walk.proofs.Walks.{WalkInv, walk-begins, walk-done, walk-bad, walk-fail, walk-wrong, walk-none, unit-room, unit-fits, walk-writes}
+use Rattle.walk.proofs.Walks.{WalkInv, walk-begins, walk-done, walk-bad, walk-fail, walk-wrong, unit-room, walk-writes}
 use Rattle.walk.proofs.write_order.Statement.{statement}
 use Rattle.walk.proofs.write_order.Tie as tie
 
 abbrev Inv-loop : tie.InvT-loop
-Inv-loop words guards out₀ owners₀ depths₀ held₀ begins₀ commits₀ sets₀ at₀ i₀ out owners depths held begins commits sets at i = WalkInv words guards out₀ out owners depths held begins commits sets at i
+Inv-loop words guards out₀ owners₀ depths₀ held₀ begins₀ commits₀ sets₀ at₀ i₀ out owners depths held begins commits sets at i =
+    WalkInv words guards out₀ out owners depths held begins commits sets at i
 
 abbrev μ-loop : tie.MeasureT-loop
-μ-loop words guards out₀ owners₀ depths₀ held₀ begins₀ commits₀ sets₀ at₀ i₀ out owners depths held begins commits sets at i = length words - i
+μ-loop words guards out₀ owners₀ depths₀ held₀ begins₀ commits₀ sets₀ at₀ i₀ out owners depths held begins commits sets at i =
+    length words - i
 
 loop-holds : tie.Need-loop-holds Inv-loop μ-loop
 loop-holds c = walk-begins _ _ _
@@ -40,9 +42,7 @@ same-length c = c .before .before .before .before .before .loop .inv .written .l
 
 returns : tie.Need-returns Inv-loop μ-loop
 returns c =
-    let inv = c .before .before .before .before .before .loop .inv in
-    let h = c .before .before .before .before .loop-test .taken in
-    written-whole (walk-bad inv h (sym (c .before .before .decode .ensures) ∙ c .enum-told .given .1))
+    written-whole (walk-bad (c .before .before .before .before .before .loop .inv) (c .before .before .before .before .loop-test .taken) (sym (c .before .before .decode .ensures) ∙ c .enum-told .given .1))
 
 cast-t : tie.Need-cast-t Inv-loop μ-loop
 cast-t c = search needs
@@ -81,11 +81,8 @@ same-length-2 c =
 
 returns-2 : tie.Need-returns-2 Inv-loop μ-loop
 returns-2 c =
-    let inv = c .before .before .before .before .before .before .before .before .before .before .before .before .before .loop .inv in
-    let h = c .before .before .before .before .before .before .before .before .before .before .before .before .loop-test .taken in
     let e = sym (c .before .before .before .before .before .before .before .before .before .before .decode .ensures) ∙ c .before .before .before .before .before .before .before .before .d .given .1 in
-    let p = c .before .before .step in
-    written-whole (walk-fail inv h e (rw (c .enum-told3 .given .1) at (p .ensures)))
+    written-whole (walk-fail (c .before .before .before .before .before .before .before .before .before .before .before .before .before .loop .inv) (c .before .before .before .before .before .before .before .before .before .before .before .before .loop-test .taken) e (rw (c .enum-told3 .given .1) at (c .before .before .step .ensures)))
 
 operation-of-requires : tie.Need-operation-of-requires Inv-loop μ-loop
 operation-of-requires c κs =
@@ -96,12 +93,9 @@ cast-judge c = search needs
 
 judge-requires : tie.Need-judge-requires Inv-loop μ-loop
 judge-requires c κs =
-    let l = c .before .before .before .before .before .before .before .before .before .before .before .before .before .before .before .before .before .before .loop in
-    let h = c .before .before .before .before .before .before .before .before .before .before .before .before .before .before .before .before .before .loop-test .taken in
     let e = sym (c .before .before .before .before .before .before .before .before .before .before .before .before .before .before .before .decode .ensures) ∙ c .before .before .before .before .before .before .before .before .before .before .before .before .before .d .given .1 in
-    let p = c .before .before .before .before .before .before .before .step in
-    let g = rw (c .before .before .before .before .before .enum-told2 .given .1) at (p .ensures) in
-    (decoded-in-range _ _ e .thread, (omega (arith, h, c .before .before .before .before .before .before .before .before .before .before .before .before .before .before .before .before .before .before .before .before .before .pre .0), rw (c .before .before .before .before .operation-of .ensures) (frame-held (c .before .before .before .before .before .before .before .before .before .before .before .before .before .before .before .before .before .before .before .before .before .args .guards .now) (l .depths) (l .inv .follows) (decoded-in-range _ _ e) g .fits)))
+    let g = rw (c .before .before .before .before .before .enum-told2 .given .1) at (c .before .before .before .before .before .before .before .step .ensures) in
+    (decoded-in-range _ _ e .thread, (omega (arith, c .before .before .before .before .before .before .before .before .before .before .before .before .before .before .before .before .before .loop-test .taken, c .before .before .before .before .before .before .before .before .before .before .before .before .before .before .before .before .before .before .before .before .before .pre .0), rw (c .before .before .before .before .operation-of .ensures) (frame-held (c .before .before .before .before .before .before .before .before .before .before .before .before .before .before .before .before .before .before .before .before .before .args .guards .now) (c .before .before .before .before .before .before .before .before .before .before .before .before .before .before .before .before .before .before .loop .depths) (c .before .before .before .before .before .before .before .before .before .before .before .before .before .before .before .before .before .before .loop .inv .follows) (decoded-in-range _ _ e) g .fits)))
 
 enum-told-4 : tie.Need-enum-told-4 Inv-loop μ-loop
 enum-told-4 c = search needs
@@ -118,8 +112,7 @@ returns-3 c =
     let inv = c .before .before .before .before .before .before .before .before .before .before .before .before .before .before .before .before .before .before .before .before .before .loop .inv in
     let h = c .before .before .before .before .before .before .before .before .before .before .before .before .before .before .before .before .before .before .before .before .loop-test .taken in
     let e = sym (c .before .before .before .before .before .before .before .before .before .before .before .before .before .before .before .before .before .before .decode .ensures) ∙ c .before .before .before .before .before .before .before .before .before .before .before .before .before .before .before .before .d .given .1 in
-    let p = c .before .before .before .before .before .before .before .before .before .before .step in
-    let g = rw (c .before .before .before .before .before .before .before .before .enum-told2 .given .1) at (p .ensures) in
+    let g = rw (c .before .before .before .before .before .before .before .before .enum-told2 .given .1) at (c .before .before .before .before .before .before .before .before .before .before .step .ensures) in
     let o = c .before .before .before .before .before .before .before .operation-of .ensures in
     let j = c .before .before .judge in
     written-whole (walk-wrong inv h e g o (j .ensures .0) (c .enum-told5 .given .1))
@@ -141,85 +134,32 @@ cast-unit-start c = search needs
 unit-start-requires : tie.Need-unit-start-requires Inv-loop μ-loop
 unit-start-requires c κs = search needs
 
+write-at-requires : tie.Need-write-at-requires Inv-loop μ-loop
+write-at-requires c κs =
+    let inv = c .before .before .before .before .before .before .before .before .before .before .before .before .before .before .before .before .before .before .before .before .before .before .before .loop .inv in
+    let h = c .before .before .before .before .before .before .before .before .before .before .before .before .before .before .before .before .before .before .before .before .before .before .loop-test .taken in
+    let e = sym (c .before .before .before .before .before .before .before .before .before .before .before .before .before .before .before .before .before .before .before .before .decode .ensures) ∙ c .before .before .before .before .before .before .before .before .before .before .before .before .before .before .before .before .before .before .d .given .1 in
+    let g = rw (c .before .before .before .before .before .before .before .before .before .before .enum-told2 .given .1) at (c .before .before .before .before .before .before .before .before .before .before .before .before .step .ensures) in
+    let o = c .before .before .before .before .before .before .before .before .before .operation-of .ensures in
+    let j = c .before .before .before .before .judge in
+    unit-room inv h e g o (j .ensures .0) (c .before .before .enum-told4 .given .1) (j .ensures .1) (c .before .unit-start .ensures) (c .before .before .before .before .before .before .before .before .before .before .before .before .before .before .before .before .before .before .before .before .before .before .before .before .before .before .pre .1)
+
 add-i : tie.Need-add-i Inv-loop μ-loop
 add-i c =
-    omega (arith, c .before .before .before .before .before .before .before .before .before .before .before .before .before .before .before .before .before .before .before .before .before .loop-test .taken, c .before .before .before .before .before .before .before .before .before .before .before .before .before .before .before .before .before .before .before .before .before .before .before .before .before .pre .0)
-
-enum-known-start : tie.Need-enum-known-start Inv-loop μ-loop
-enum-known-start c = search needs
-
-cast-from : tie.Need-cast-from Inv-loop μ-loop
-cast-from c = search needs
-
-mul-write-unit : tie.Need-mul-write-unit Inv-loop μ-loop
-mul-write-unit c =
-    omega (arith, c .before .before .before .before .before .before .before .before .before .before .before .before .before .before .before .before .before .before .before .before .before .before .before .before .before .loop .inv .written .within, c .before .before .before .before .before .before .before .before .before .before .before .before .before .before .before .before .before .before .before .before .before .before .before .before .before .loop .inv .written .long, c .before .before .before .before .before .before .before .before .before .before .before .before .before .before .before .before .before .before .before .before .before .before .before .before .before .before .before .before .good)
-
-sub-write-unit : tie.Need-sub-write-unit Inv-loop μ-loop
-sub-write-unit c =
-    omega (arith, c .before .before .before .before .before .before .before .before .before .before .before .before .before .before .before .before .before .before .before .before .before .before .before .before .before .loop .inv .written .within)
-
-part-write-unit-start : tie.Need-part-write-unit-start Inv-loop μ-loop
-part-write-unit-start c =
-    c .before .before .before .before .before .before .before .before .before .before .before .before .before .before .before .before .before .before .before .before .before .before .before .before .before .loop .inv .written .within
-
-part-write-unit-end : tie.Need-part-write-unit-end Inv-loop μ-loop
-part-write-unit-end c = search needs
-
-write-unit-requires : tie.Need-write-unit-requires Inv-loop μ-loop
-write-unit-requires c κs =
-    let inv = c .before .before .before .before .before .before .before .before .before .before .before .before .before .before .before .before .before .before .before .before .before .before .before .before .before .before .loop .inv in
-    let h = c .before .before .before .before .before .before .before .before .before .before .before .before .before .before .before .before .before .before .before .before .before .before .before .before .before .loop-test .taken in
-    let e = sym (c .before .before .before .before .before .before .before .before .before .before .before .before .before .before .before .before .before .before .before .before .before .before .before .decode .ensures) ∙ c .before .before .before .before .before .before .before .before .before .before .before .before .before .before .before .before .before .before .before .before .before .d .given .1 in
-    let p = c .before .before .before .before .before .before .before .before .before .before .before .before .before .before .before .step in
-    let g = rw (c .before .before .before .before .before .before .before .before .before .before .before .before .before .enum-told2 .given .1) at (p .ensures) in
-    let o = c .before .before .before .before .before .before .before .before .before .before .before .before .operation-of .ensures in
-    let j = c .before .before .before .before .before .before .before .judge in
-    unit-fits inv h e g o (j .ensures .0) (c .before .before .before .before .before .enum-told4 .given .1) (j .ensures .1) (c .before .before .before .before .unit-start .ensures) (c .before .before .start .given .1) (c .before .before .before .before .before .before .before .before .before .before .before .before .before .before .before .before .before .before .before .before .before .before .before .before .before .before .before .before .before .pre .1)
-
-add-at : tie.Need-add-at Inv-loop μ-loop
-add-at c =
-    let inv = c .before .before .before .before .before .before .before .before .before .before .before .before .before .before .before .before .before .before .before .before .before .before .before .before .before .before .before .before .before .loop .inv in
-    let h = c .before .before .before .before .before .before .before .before .before .before .before .before .before .before .before .before .before .before .before .before .before .before .before .before .before .before .before .before .loop-test .taken in
-    let e = sym (c .before .before .before .before .before .before .before .before .before .before .before .before .before .before .before .before .before .before .before .before .before .before .before .before .before .before .decode .ensures) ∙ c .before .before .before .before .before .before .before .before .before .before .before .before .before .before .before .before .before .before .before .before .before .before .before .before .d .given .1 in
-    let p = c .before .before .before .before .before .before .before .before .before .before .before .before .before .before .before .before .before .before .step in
-    let g = rw (c .before .before .before .before .before .before .before .before .before .before .before .before .before .before .before .before .enum-told2 .given .1) at (p .ensures) in
-    let o = c .before .before .before .before .before .before .before .before .before .before .before .before .before .before .before .operation-of .ensures in
-    let j = c .before .before .before .before .before .before .before .before .before .before .judge in
-    omega (arith, unit-room inv h e g o (j .ensures .0) (c .before .before .before .before .before .before .before .before .enum-told4 .given .1) (j .ensures .1) (c .before .before .before .before .before .before .before .unit-start .ensures) (c .before .before .before .before .before .start .given .1) (c .before .before .before .before .before .before .before .before .before .before .before .before .before .before .before .before .before .before .before .before .before .before .before .before .before .before .before .before .before .before .before .before .pre .1), c .before .before .write-unit .ensures .0, inv .written .long, c .before .before .before .before .before .before .before .before .before .before .before .before .before .before .before .before .before .before .before .before .before .before .before .before .before .before .before .before .before .before .before .before .good)
+    omega (arith, c .before .before .before .before .before .before .before .before .before .before .before .before .before .before .before .before .before .before .before .before .before .before .before .before .before .loop-test .taken, c .before .before .before .before .before .before .before .before .before .before .before .before .before .before .before .before .before .before .before .before .before .before .before .before .before .before .before .before .before .pre .0)
 
 loop-less : tie.Need-loop-less Inv-loop μ-loop
-loop-less c =
-    omega (arith, c .before .before .before .before .before .before .before .before .before .before .before .before .before .before .before .before .before .before .before .before .before .before .before .before .before .before .before .before .loop-test .taken)
+loop-less c = omega (arith, c .before .before .before .before .before .before .before .before .before .before .before .before .before .before .before .before .before .before .before .before .before .before .before .before .before .loop-test .taken)
 
 loop-again : tie.Need-loop-again Inv-loop μ-loop
 loop-again c =
-    let inv = c .before .before .before .before .before .before .before .before .before .before .before .before .before .before .before .before .before .before .before .before .before .before .before .before .before .before .before .before .before .loop .inv in
-    let h = c .before .before .before .before .before .before .before .before .before .before .before .before .before .before .before .before .before .before .before .before .before .before .before .before .before .before .before .before .loop-test .taken in
-    let e = sym (c .before .before .before .before .before .before .before .before .before .before .before .before .before .before .before .before .before .before .before .before .before .before .before .before .before .before .decode .ensures) ∙ c .before .before .before .before .before .before .before .before .before .before .before .before .before .before .before .before .before .before .before .before .before .before .before .before .d .given .1 in
-    let p = c .before .before .before .before .before .before .before .before .before .before .before .before .before .before .before .before .before .before .step in
-    let g = rw (c .before .before .before .before .before .before .before .before .before .before .before .before .before .before .before .before .enum-told2 .given .1) at (p .ensures) in
-    let o = c .before .before .before .before .before .before .before .before .before .before .before .before .before .before .before .operation-of .ensures in
-    let j = c .before .before .before .before .before .before .before .before .before .before .judge in
-    walk-writes inv h e g o (j .ensures .0) (c .before .before .before .before .before .before .before .before .enum-told4 .given .1) (j .ensures .1) (c .before .before .before .before .before .before .before .unit-start .ensures) (c .before .before .before .before .before .start .given .1) (c .before .before .before .before .before .before .before .before .before .before .before .before .before .before .before .before .before .before .before .before .before .before .before .before .before .before .before .before .before .before .before .before .pre .1) (c .before .before .write-unit .ensures .0) (c .before .before .write-unit .ensures .1)
-
-enum-told-6 : tie.Need-enum-told-6 Inv-loop μ-loop
-enum-told-6 c = search needs
-
-loop-less-2 : tie.Need-loop-less-2 Inv-loop μ-loop
-loop-less-2 c =
-    omega (arith, c .before .before .before .before .before .before .before .before .before .before .before .before .before .before .before .before .before .before .before .before .before .before .before .loop-test .taken)
-
-loop-again-2 : tie.Need-loop-again-2 Inv-loop μ-loop
-loop-again-2 c =
-    let inv = c .before .before .before .before .before .before .before .before .before .before .before .before .before .before .before .before .before .before .before .before .before .before .before .before .loop .inv in
-    let h = c .before .before .before .before .before .before .before .before .before .before .before .before .before .before .before .before .before .before .before .before .before .before .before .loop-test .taken in
-    let e = sym (c .before .before .before .before .before .before .before .before .before .before .before .before .before .before .before .before .before .before .before .before .before .decode .ensures) ∙ c .before .before .before .before .before .before .before .before .before .before .before .before .before .before .before .before .before .before .before .d .given .1 in
-    let p = c .before .before .before .before .before .before .before .before .before .before .before .before .before .step in
-    let g = rw (c .before .before .before .before .before .before .before .before .before .before .before .enum-told2 .given .1) at (p .ensures) in
-    let o = c .before .before .before .before .before .before .before .before .before .before .operation-of .ensures in
-    let j = c .before .before .before .before .before .judge in
-    walk-none inv h e g o (j .ensures .0) (c .before .before .before .enum-told4 .given .1) (j .ensures .1) (c .before .before .unit-start .ensures) (c .enum-told6 .given .1)
+    let inv = c .before .before .before .before .before .before .before .before .before .before .before .before .before .before .before .before .before .before .before .before .before .before .before .before .before .before .loop .inv in
+    let h = c .before .before .before .before .before .before .before .before .before .before .before .before .before .before .before .before .before .before .before .before .before .before .before .before .before .loop-test .taken in
+    let e = sym (c .before .before .before .before .before .before .before .before .before .before .before .before .before .before .before .before .before .before .before .before .before .before .before .decode .ensures) ∙ c .before .before .before .before .before .before .before .before .before .before .before .before .before .before .before .before .before .before .before .before .before .d .given .1 in
+    let g = rw (c .before .before .before .before .before .before .before .before .before .before .before .before .before .enum-told2 .given .1) at (c .before .before .before .before .before .before .before .before .before .before .before .before .before .before .before .step .ensures) in
+    let o = c .before .before .before .before .before .before .before .before .before .before .before .before .operation-of .ensures in
+    let j = c .before .before .before .before .before .before .before .judge in
+    walk-writes inv h e g o (j .ensures .0) (c .before .before .before .before .before .enum-told4 .given .1) (j .ensures .1) (c .before .before .before .before .unit-start .ensures) (c .before .before .before .before .before .before .before .before .before .before .before .before .before .before .before .before .before .before .before .before .before .before .before .before .before .before .before .before .before .pre .1) (c .before .before .write-at .ensures .0) (c .before .before .write-at .ensures .1)
 
 same-length-4 : tie.Need-same-length-4 Inv-loop μ-loop
 same-length-4 c = c .before .loop .inv .written .long
@@ -264,19 +204,9 @@ write-order-spec =
     array-read-unit-start-2
     cast-unit-start
     unit-start-requires
+    write-at-requires
     add-i
-    enum-known-start
-    cast-from
-    mul-write-unit
-    sub-write-unit
-    part-write-unit-start
-    part-write-unit-end
-    write-unit-requires
-    add-at
     loop-less
     loop-again
-    enum-told-6
-    loop-less-2
-    loop-again-2
     same-length-4
     returns-4)

@@ -1,4 +1,4 @@
--- Each return and each turn is a law of proofs/Walks at the values that the code has there.
+-- Each return and each turn is a law of proofs/Ends at the values that the code has there.
 use Prim.Native.Nat.{_-_}
 use mathlib.Core.Path.{sym, ap, _∙_}
 use native.Mathlib.Omega.{arith}
@@ -7,9 +7,9 @@ use lib.ListN.{length}
 use Rattle.frame.proofs.Laws.{decoded-in-range}
 use Rattle.serial.specs.Order.{Point}
 use Rattle.pass.proofs.Turn.{frame-held}
-use Rattle.walk.proofs.Walks.{EndInv, end-begins, end-done, end-bad, end-fail, end-wrong, end-next}
-use Rattle.walk.proofs.end_marks.Statement.{statement}
-use Rattle.walk.proofs.end_marks.Tie as tie
+use Rattle.endmarks.proofs.Ends.{EndInv, end-begins, end-done, end-bad, end-fail, end-wrong, end-next}
+use Rattle.endmarks.proofs.end_marks.Statement.{statement}
+use Rattle.endmarks.proofs.end_marks.Tie as tie
 
 abbrev Inv-loop : tie.InvT-loop
 Inv-loop words guards owners₀ depths₀ held₀ begins₀ commits₀ sets₀ i₀ owners depths held begins commits sets i = EndInv words guards owners depths held begins commits sets i

@@ -1,0 +1,2 @@
+-- Ends: the loop of `end_marks`.
+mod Ends
