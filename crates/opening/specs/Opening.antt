@@ -1,4 +1,4 @@
--- A recording read, with the guard list checked before it, and judged.
+-- A recording read, with the guard list checked before it.
 use Prim.Native.Nat.{ℕ, _≤_}
 use mathlib.Core.Path.{_≡_}
 use mathlib.Core.Bool.{Bool, cond}
@@ -11,8 +11,6 @@ use Rattle.text.specs.declared.ReadReply.the-variants as read
 use Rattle.guards.specs.Guards.{guardsRead}
 use Rattle.guards.specs.declared.GuardsReply.{GuardsReply}
 use Rattle.guards.specs.declared.GuardsReply.the-variants as guards
-use Rattle.reply.specs.declared.Reply.{Reply}
-use Rattle.verdict.specs.Verdict.{declaredReply, inferredReply}
 use Rattle.phrase.specs.declared.Source.{Source}
 use Rattle.phrase.specs.declared.Source.the-variants as source
 use Rattle.opening.specs.declared.Opened.{Opened}
@@ -38,7 +36,3 @@ opening declared list s = onList (listReply declared list) (openedRead source.Re
 abbrev pub WordsRead : Opened → List ℕ → List ℕ → Type 0
 WordsRead (opened.Frames n) s ws = (n ≤ length ws) × (take n ws ≡ wordsTo s n)
 WordsRead (opened.Refused f x) s ws = Unit {0}
-
--- The reply of the rules.
-unfoldable pub replyUnder : Bool → List ℕ → List ℕ → Reply
-replyUnder declared list ws = cond declared (declaredReply list ws) (inferredReply ws 1024)

@@ -1,12 +1,11 @@
-// A recording read, with the guard list checked before it, and judged.
+// A recording read, with the guard list checked before it.
 use frame::Refused;
 use guards::GuardsReply;
 use phrase::Source;
-use reply::Reply;
 use text::ReadReply;
 ghost use mathlib.Core.Path.{_≡_};
 ghost use Rattle.text.specs.Text.{scanned};
-ghost use Rattle.opening.specs.Opening.{openedRead, listReply, opening, WordsRead, replyUnder};
+ghost use Rattle.opening.specs.Opening.{openedRead, listReply, opening, WordsRead};
 
 // A recording that is read, with its number of frames, or what is refused.
 pub enum Opened {
@@ -47,14 +46,4 @@ pub fn open_recording(declared: bool, list: &[u8], text: &[u8], words: &mut [u32
         GuardsReply::Lines(n) => open_text(Source::Recording, text, words),
         GuardsReply::Refused(x) => Opened::Refused(Source::GuardList, x),
     }
-}
-
-// The reply of the rules.
-pub fn judge(declared: bool, list: &[u8], words: &[u32]) -> Reply
-    ensures { λ r. ⌜ r ≡ replyUnder declared (now (list .entry)) (now (words .entry)) ⌝ }
-{
-    if declared {
-        return verdict::declared(list, words);
-    }
-    verdict::inferred_reply(words)
 }

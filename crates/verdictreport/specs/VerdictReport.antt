@@ -1,17 +1,23 @@
--- The tool's verdict and its answer in words, written into a lent buffer as far as there is room; the reply is the number of bytes written.
+-- The tool's verdict, as a verdict line and in words. Guards are declared by the list where `declared` holds, and inferred otherwise.
 use Prim.Native.Nat.{ℕ}
-use mathlib.Core.Bool.{Bool}
+use mathlib.Core.Bool.{Bool, cond}
 use mathlib.Core.List.{List, []}
 use Rattle.frame.specs.declared.Refused.{Refused}
 use Rattle.text.specs.Text.{wordsTo}
+use Rattle.reply.specs.declared.Reply.{Reply}
 use Rattle.reply.specs.declared.Reply.the-variants as reply
+use Rattle.verdict.specs.Verdict.{declaredReply, inferredReply}
 use Rattle.line.specs.Line.{verdictLine}
 use Rattle.phrase.specs.declared.Source.the-variants as source
 use Rattle.explain.specs.Explain.{explanation}
 use Rattle.refusaltext.specs.RefusalText.{refusalText}
 use Rattle.opening.specs.declared.Opened.{Opened}
 use Rattle.opening.specs.declared.Opened.the-variants as opened
-use Rattle.opening.specs.Opening.{opening, replyUnder}
+use Rattle.opening.specs.Opening.{opening}
+
+-- The reply of the rules.
+unfoldable pub replyUnder : Bool → List ℕ → List ℕ → Reply
+replyUnder declared list ws = cond declared (declaredReply list ws) (inferredReply ws 1024)
 
 -- The command verdict: the verdict line.
 abbrev pub verdictOpened : Opened → Bool → List ℕ → List ℕ → List ℕ

@@ -10,7 +10,17 @@ ghost use mathlib.Core.Path.{_≡_};
 ghost use lib.ListN.{length};
 ghost use Rattle.output.specs.Output.{behind, written};
 ghost use Rattle.opening.specs.Opening.{opening};
-ghost use Rattle.verdictreport.specs.VerdictReport.{verdictReport, explainReport};
+ghost use Rattle.verdictreport.specs.VerdictReport.{replyUnder, verdictReport, explainReport};
+
+// The reply of the rules.
+fn judge(declared: bool, list: &[u8], words: &[u32]) -> Reply
+    ensures { λ r. ⌜ r ≡ replyUnder declared (now (list .entry)) (now (words .entry)) ⌝ }
+{
+    if declared {
+        return verdict::declared(list, words);
+    }
+    verdict::inferred_reply(words)
+}
 
 // The verdict line.
 pub fn verdict_report(declared: bool, list: &[u8], text: &[u8], out: &mut [u8]) -> usize
@@ -22,7 +32,7 @@ pub fn verdict_report(declared: bool, list: &[u8], text: &[u8], out: &mut [u8]) 
     match o {
         Opened::Frames(n) => {
             let k = n as usize;
-            let r = opening::judge(declared, list, &words[..k]);
+            let r = judge(declared, list, &words[..k]);
             let l = line::verdict_line(r, n);
             put_text(out, 0, &l)
         }
@@ -43,7 +53,7 @@ pub fn explain_report(declared: bool, list: &[u8], text: &[u8], out: &mut [u8]) 
     match o {
         Opened::Frames(n) => {
             let k = n as usize;
-            let r = opening::judge(declared, list, &words[..k]);
+            let r = judge(declared, list, &words[..k]);
             explain(out, 0, Source::Recording, &words[..k], r, n)
         }
         Opened::Refused(s, x) => explain_refusal(out, 0, s, &words[..0], x),

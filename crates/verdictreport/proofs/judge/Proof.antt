@@ -1,8 +1,8 @@
 -- The two cases.
 use borrow.Author.Needs.{needs}
-use Rattle.opening.specs.Opening.{replyUnder}
-use Rattle.opening.proofs.judge.Statement.{statement}
-use Rattle.opening.proofs.judge.Tie as tie
+use Rattle.verdictreport.specs.VerdictReport.{replyUnder}
+use Rattle.verdictreport.proofs.judge.Statement.{statement}
+use Rattle.verdictreport.proofs.judge.Tie as tie
 
 declared-requires : tie.Need-declared-requires
 declared-requires c κs = search needs
