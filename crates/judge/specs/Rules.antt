@@ -20,6 +20,8 @@ use Rattle.reply.specs.declared.Mark.{Mark}
 use Rattle.reply.specs.declared.Mark.the-variants.{At, Absent}
 use Rattle.reply.specs.declared.Verdict.{Verdict}
 use Rattle.reply.specs.declared.Verdict.the-variants.{Reducible, Violated}
+use Rattle.judge.specs.declared.Fault.{Fault}
+use Rattle.judge.specs.declared.Fault.the-variants as fault
 use Rattle.judge.specs.declared.Operation.{Operation}
 use Rattle.judge.specs.declared.Operation.the-variants.{Acquire, Release, Protected, Unprotected, Inferred, Begin, End}
 
@@ -68,6 +70,11 @@ commitMark (after b c) = At c
 abbrev pub violation : Kind → ℕ → Thread → Phase → ℕ → Verdict
 violation k i t p locks =
     Violated (record { kind = k; frame = i; thread = t; begin = beginMark p; commit = commitMark p; locks = locks })
+
+-- The verdict on a frame by what is wrong with it.
+abbrev pub faultVerdict : Fault → ℕ → Thread → Phase → Verdict
+faultVerdict fault.None i t p = Reducible
+faultVerdict (fault.Wrong k locks) i t p = violation k i t p locks
 
 -- An action as the rules see it, by the guard of the variable that it accesses; `guards` has the code of each variable's guard.
 abbrev pub guardedAccess : Guard → Variable → Operation

@@ -14,7 +14,7 @@ ghost use mathlib.Core.Bool.{cond, true, false};
 ghost use lib.ListN.{getD};
 ghost use lib.Dec.{eqb};
 ghost use Rattle.frame.specs.Frame.{ObjectInRange};
-ghost use Rattle.judge.specs.Rules.{operationOf, accessOf, violation, phaseOf, committed, judgingOf, judged, judgeOperation};
+ghost use Rattle.judge.specs.Rules.{operationOf, accessOf, violation, faultVerdict, phaseOf, phaseAt, committed, judgingOf, judged, judgeOperation};
 ghost use Rattle.judge.specs.Held.{Holdable, holding};
 
 // An action as the rules see it: an access is one under its guard, an unprotected one, or one whose guard is inferred.
@@ -26,6 +26,12 @@ pub enum Operation {
     Inferred(Variable),
     Begin,
     End,
+}
+
+// What is wrong with a frame: nothing, or a kind of violation, and the locks that it carries.
+pub enum Fault {
+    None,
+    Wrong(Kind, u64),
 }
 
 fn access_of(guards: &[u8; 1024], v: Variable) -> Operation
@@ -133,6 +139,72 @@ fn commit_at(d: u8, commit: u32, i: u32) -> u32
     commit
 }
 
+// The rules for one operation of a thread at depth d, at place i: the state after it, or what is wrong, which leaves the state as it was.
+fn apply(
+    held: &mut [u64; 32],
+    begins: &mut [u32; 32],
+    commits: &mut [u32; 32],
+    sets: &mut [u64; 1024],
+    d: u8,
+    i: u32,
+    thread: Thread,
+    op: Operation,
+) -> Fault
+    requires { ⌜ thread .0 < 32 ⌝ ∗ ⌜ i < 4294967295 ⌝ ∗ ⌜ Holdable op (getD (now held) (thread .0) 0) ⌝ }
+    ensures rules { λ r. ⌜ judgeOperation i thread d (getD (now (held .entry)) (thread .0) 0) op (judgingOf (now (begins .entry)) (now (commits .entry)) (now (sets .entry))) ≡ judged (faultVerdict r i thread (phaseAt d thread (judgingOf (now (begins .entry)) (now (commits .entry)) (now (sets .entry))))) (judgingOf (now (begins .exit)) (now (commits .exit)) (now (sets .exit))) ⌝ }
+    ensures locks { λ r. ⌜ now (held .exit) ≡ holding (faultVerdict r i thread (phaseAt d thread (judgingOf (now (begins .entry)) (now (commits .entry)) (now (sets .entry))))) (thread .0) op (now (held .entry)) ⌝ }
+{
+    let k = thread.0 as usize;
+    let h = held[k];
+    let c = commits[k];
+    match op {
+        Operation::Acquire(l) => {
+            let s = single(l);
+            if after_commit(d, c) {
+                return Fault::Wrong(Kind::AcquireAfterCommit, s);
+            }
+            held[k] = h + s;
+            Fault::None
+        }
+        Operation::Release(l) => {
+            held[k] = h - single(l);
+            commits[k] = commit_at(d, c, i);
+            Fault::None
+        }
+        Operation::Protected(m) => {
+            if contains(h, m) {
+                return Fault::None;
+            }
+            Fault::Wrong(Kind::GuardNotHeld, single(m))
+        }
+        Operation::Unprotected => {
+            if after_commit(d, c) {
+                return Fault::Wrong(Kind::UnprotectedAfterCommit, 0);
+            }
+            commits[k] = commit_at(d, c, i);
+            Fault::None
+        }
+        Operation::Inferred(v) => {
+            let n = v.0 as usize;
+            let s = sets[n];
+            let x = s & h;
+            if x == 0 {
+                return Fault::Wrong(Kind::SetEmptied, s);
+            }
+            sets[n] = x;
+            Fault::None
+        }
+        Operation::Begin => {
+            if d == 0 {
+                begins[k] = i;
+                commits[k] = 0;
+            }
+            Fault::None
+        }
+        Operation::End => Fault::None,
+    }
+}
+
 // One frame at place i, sound, of a thread at depth d. `Reducible` is: go on.
 pub fn judge(
     held: &mut [u64; 32],
@@ -149,52 +221,11 @@ pub fn judge(
     ensures locks { λ r. ⌜ now (held .exit) ≡ holding r (thread .0) op (now (held .entry)) ⌝ }
 {
     let k = thread.0 as usize;
-    let h = held[k];
     let b = begins[k];
     let c = commits[k];
-    match op {
-        Operation::Acquire(l) => {
-            if after_commit(d, c) {
-                return wrong(Kind::AcquireAfterCommit, i, thread, d, b, c, single(l));
-            }
-            held[k] = h + single(l);
-            Verdict::Reducible
-        }
-        Operation::Release(l) => {
-            held[k] = h - single(l);
-            commits[k] = commit_at(d, c, i);
-            Verdict::Reducible
-        }
-        Operation::Protected(m) => {
-            if contains(h, m) {
-                return Verdict::Reducible;
-            }
-            wrong(Kind::GuardNotHeld, i, thread, d, b, c, single(m))
-        }
-        Operation::Unprotected => {
-            if after_commit(d, c) {
-                return wrong(Kind::UnprotectedAfterCommit, i, thread, d, b, c, 0);
-            }
-            commits[k] = commit_at(d, c, i);
-            Verdict::Reducible
-        }
-        Operation::Inferred(v) => {
-            let n = v.0 as usize;
-            let s = sets[n];
-            let x = s & h;
-            if x == 0 {
-                return wrong(Kind::SetEmptied, i, thread, d, b, c, s);
-            }
-            sets[n] = x;
-            Verdict::Reducible
-        }
-        Operation::Begin => {
-            if d == 0 {
-                begins[k] = i;
-                commits[k] = 0;
-            }
-            Verdict::Reducible
-        }
-        Operation::End => Verdict::Reducible,
+    let f = apply(held, begins, commits, sets, d, i, thread, op);
+    match f {
+        Fault::None => Verdict::Reducible,
+        Fault::Wrong(kind, locks) => wrong(kind, i, thread, d, b, c, locks),
     }
 }
