@@ -5,7 +5,7 @@ use Rattle.text.specs.Text.{wordAt, scanFrom, wordsTo}
 use Rattle.digits.specs.Digits.{digitOf, digitsValue, lineOf}
 use Rattle.guards.specs.Guards.{guardsFrom}
 use Rattle.soundness.specs.Soundness.{stepAction, checkFrom, start}
-use Rattle.judge.specs.Rules.{judgeOperation}
+use Rattle.instrumented.specs.Rules.{judgeOperation}
 use Rattle.pass.specs.Pass.{judgeFrom, startJudging, fullSets, judgement}
 use Rattle.verdict.specs.Verdict.{declaredReply, inferredGuards, inferredReply}
 use Rattle.line.specs.Line.{byteOf, digits}

@@ -24,9 +24,9 @@ use Rattle.reply.specs.declared.Verdict.the-variants as verdict
 use Rattle.soundness.specs.Soundness.{State, stepFrame, checkFrom, start}
 use Rattle.soundness.specs.declared.Outcome.{Outcome}
 use Rattle.soundness.specs.declared.Outcome.the-variants as outcome
-use Rattle.judge.specs.Rules.{operationOf}
-use Rattle.judge.specs.declared.Operation.{Operation}
-use Rattle.judge.specs.declared.Operation.the-variants.{Acquire, Release, Protected, Unprotected, Inferred, Begin, End}
+use Rattle.operation.specs.Operation.{operationOf}
+use Rattle.operation.specs.declared.Operation.{Operation}
+use Rattle.operation.specs.declared.Operation.the-variants.{Acquire, Release, Protected, Unprotected, Inferred, Begin, End}
 use Rattle.pass.specs.Pass.{Ended, judgeFrame, startJudging, fullSets}
 use Rattle.pass.proofs.Judgement.{judgement-pass, judgement-sound}
 use Rattle.rules.specs.Choice.{Reducible, Choice, choose}

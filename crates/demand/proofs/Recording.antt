@@ -24,7 +24,8 @@ use Rattle.reply.specs.declared.Verdict.the-variants as verdict
 use Rattle.soundness.specs.Soundness.{State, stepped, stepFrame, checkFrom, start}
 use Rattle.soundness.specs.declared.Outcome.{Outcome}
 use Rattle.soundness.specs.declared.Outcome.the-variants as outcome
-use Rattle.judge.specs.Rules.{outside, before, after, Judging, judged, phaseOf, operationOf}
+use Rattle.instrumented.specs.Rules.{outside, before, after, Judging, judged, phaseOf}
+use Rattle.operation.specs.Operation.{operationOf}
 use Rattle.pass.specs.Pass.{Ended, judgeFrame, judgeFrom, startJudging, fullSets}
 use Rattle.rules.proofs.Choice.{goes, goes-on}
 use Rattle.exchange.specs.Exchange.{frameOf, framesOf}

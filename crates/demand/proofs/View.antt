@@ -26,10 +26,11 @@ use Rattle.reply.specs.declared.Verdict.the-variants as verdict
 use Rattle.soundness.specs.Soundness.{State, Stepped, stateOf, stepped, stepAction, stepFrame}
 use Rattle.soundness.specs.declared.Outcome.the-variants as outcome
 use Rattle.soundness.proofs.Laws.{passed, spared}
-use Rattle.judge.specs.Rules.{outside, before, after, Judging, judgingOf, Judged, judged, contains, committed, withCommit, acquireIn, unprotectedIn, guardedAccess, operationOf, judgeOperation}
-use Rattle.judge.specs.Held.{heldSet}
-use Rattle.judge.specs.declared.Operation.{Operation}
-use Rattle.judge.specs.declared.Operation.the-variants.{Acquire, Release, Protected, Unprotected, Inferred, Begin, End}
+use Rattle.instrumented.specs.Rules.{outside, before, after, Judging, judgingOf, Judged, judged, contains, committed, withCommit, acquireIn, unprotectedIn, judgeOperation}
+use Rattle.operation.specs.Operation.{guardedAccess, operationOf}
+use Rattle.instrumented.specs.Held.{heldSet}
+use Rattle.operation.specs.declared.Operation.{Operation}
+use Rattle.operation.specs.declared.Operation.the-variants.{Acquire, Release, Protected, Unprotected, Inferred, Begin, End}
 use Rattle.pass.specs.Pass.{judgeFrame}
 use Rattle.rules.proofs.Store.{held-is, getD-set}
 use Rattle.reduction.proofs.Run.{Run, put, sound, right, afterwards, mark}

@@ -16,9 +16,10 @@ use Rattle.soundness.specs.declared.Outcome.the-variants as outcome
 use Rattle.reply.specs.declared.Violation.{Violation}
 use Rattle.reply.specs.declared.Verdict.{Verdict}
 use Rattle.reply.specs.declared.Verdict.the-variants as verdict
-use Rattle.judge.specs.Rules.{Judging, judgingOf, judged, operationOf, judgeOperation}
-use Rattle.judge.specs.Held.{holding}
-use Rattle.judge.specs.declared.Operation.{Operation}
+use Rattle.instrumented.specs.Rules.{Judging, judgingOf, judged, judgeOperation}
+use Rattle.operation.specs.Operation.{operationOf}
+use Rattle.instrumented.specs.Held.{holding}
+use Rattle.operation.specs.declared.Operation.{Operation}
 use Rattle.pass.specs.Pass.{judgeFrame, startJudging, fullSets}
 use Rattle.pass.proofs.Turn.{Follows, none-held, frame-follows, frame-judged}
 use Rattle.serial.specs.Order.{Point}

@@ -40,7 +40,7 @@ pub fn end_marks(words: &[u32], guards: &[u8; 1024]) -> Marks
             };
         };
         let a = f.action;
-        let op = judge::operation_of(guards, a);
+        let op = operation::operation_of(guards, a);
         let v = judge::judge(
             &mut held,
             &mut begins,

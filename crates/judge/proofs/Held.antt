@@ -8,7 +8,7 @@ use native.Mathlib.Nat.{pow-succ', mul-left-comm, one-mul, zero-mul}
 use borrow.Author.Tests.{eq-eqb, ne-eqb}
 use lib.Dec.{eqb}
 use lib.ListN.{length, getD, set, replicate}
-use Rattle.judge.specs.Held.{heldSet}
+use Rattle.instrumented.specs.Held.{heldSet}
 
 -- 1 if an owner is thread t
 abbrev pub mine : ℕ → ℕ → ℕ

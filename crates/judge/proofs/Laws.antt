@@ -1,36 +1,28 @@
 -- Laws of the step of one frame.
-use Prim.Native.Nat.{ℕ, _-_, _*_, _^_, _%_, _<_}
-use mathlib.Core.Path.{_≡_, refl, sym, ap, _∙_}
-use mathlib.Core.Logic.{_⊎_, inl, inr, ⊎-elim}
-use mathlib.Core.Bool.{Bool, true, false, cond, true≢false}
-use native.Mathlib.Omega.{arith}
-use native.Mathlib.Nat.{one-mul}
+use Prim.Native.Nat.{ℕ, _-_, _^_, _<_}
+use mathlib.Core.Path.{_≡_, refl, sym, ap}
+use mathlib.Core.Bool.{Bool, true, false, cond}
 use lib.Dec.{eqb, ltb}
 use borrow.Author.Tests.{ltb-true}
 use mathlib.Core.List.{List}
 use lib.ListN.{getD, set}
 use lib.Bits.{bitAnd}
-use lib.Pow.{shl-exact}
 use Rattle.frame.proofs.Shared.{never, either}
 use Rattle.frame.specs.declared.Thread.{Thread}
 use Rattle.reply.specs.declared.Kind.{Kind}
 use Rattle.reply.specs.declared.Mark.the-variants.{At, Absent}
-use Rattle.reply.specs.declared.Verdict.the-variants.{Violated}
+use Rattle.reply.specs.declared.Verdict.the-variants.{Violated, Reducible}
 use Rattle.frame.specs.declared.Lock.{Lock}
 use Rattle.reply.specs.declared.Kind.the-variants as kind
-use Rattle.reply.specs.declared.Verdict.the-variants.{Reducible}
 use Rattle.reply.specs.declared.Verdict.{Verdict}
 use Rattle.reply.specs.declared.Violation.{Violation}
 use Rattle.frame.specs.declared.Variable.{Variable}
 use Rattle.guards.specs.Guards.{guardOf}
-use Rattle.judge.specs.Held.{Holdable, held}
-use Rattle.judge.specs.Rules.{Phase, outside, before, after, Judging, judgingOf, Judged, judged, violation, phaseOf, phaseAt, contains, committed, withCommit, acquireIn, unprotectedIn, judgeOperation, guardedAccess}
-use Rattle.judge.specs.declared.Operation.{Operation}
-use Rattle.judge.specs.declared.Operation.the-variants.{Acquire, Release, Protected, Unprotected, Inferred, Begin, End}
-
--- the set of one lock, as the machine shifts it
-pub shl-one : (n : ℕ) → n < 64 → (1 * 2 ^ n) % 2 ^ 64 ≡ 2 ^ n
-shl-one n h = shl-exact 1 n 64 (omega arith) (omega arith) ∙ one-mul (2 ^ n)
+use Rattle.instrumented.specs.Held.{Holdable, held}
+use Rattle.instrumented.specs.Rules.{Phase, outside, before, after, Judging, judgingOf, Judged, judged, violation, phaseOf, phaseAt, contains, committed, withCommit, acquireIn, unprotectedIn, judgeOperation}
+use Rattle.operation.specs.Operation.{guardedAccess}
+use Rattle.operation.specs.declared.Operation.{Operation}
+use Rattle.operation.specs.declared.Operation.the-variants.{Acquire, Release, Protected, Unprotected, Inferred, Begin, End}
 
 -- the marks of a violation, from depth, begin and commit
 pub marks : (k : Kind) (i : ℕ) (t : Thread) (d b c l : ℕ)
@@ -44,35 +36,6 @@ marks k i t d b c l = go (eqb d 0) refl (eqb c 0) refl
     go true e q f = rw e
     go false e true f = rw (e, f)
     go false e false f = rw (e, f)
-
--- whether a thread is after commit, from depth and commit
-abbrev pub afterCommit : ℕ → ℕ → Bool
-afterCommit d c = cond (eqb d 0) false (cond (eqb c 0) false true)
-
-module _ (i : ℕ) (t : Thread) (d b c : ℕ) (j : Judging) where
-  module _ (a : afterCommit d c ≡ true) where
-    after-is : (p : Bool) → eqb d 0 ≡ p → (q : Bool) → eqb c 0 ≡ q → (eqb d 0 ≡ false) × (eqb c 0 ≡ false)
-    after-is true e q f = absurd (true≢false (sym a ∙ rw e))
-    after-is false e true f = absurd (true≢false (sym a ∙ rw (e, f)))
-    after-is false e false f = (e, f)
-
-    pub acquire-after : (l : Lock) → acquireIn (phaseOf d b c) i t l j ≡ judged (violation kind.AcquireAfterCommit i t (phaseOf d b c) (2 ^ (l .0))) j
-    acquire-after l = let e = after-is (eqb d 0) refl (eqb c 0) refl in rw (e .0, e .1)
-
-    pub unprotected-after : (n : Judging) → unprotectedIn (phaseOf d b c) i t n j ≡ judged (violation kind.UnprotectedAfterCommit i t (phaseOf d b c) 0) j
-    unprotected-after n = let e = after-is (eqb d 0) refl (eqb c 0) refl in rw (e .0, e .1)
-
-  module _ (a : afterCommit d c ≡ false) where
-    else-is : (p : Bool) → eqb d 0 ≡ p → (q : Bool) → eqb c 0 ≡ q → (phaseOf d b c ≡ outside) ⊎ (phaseOf d b c ≡ before b)
-    else-is true e q f = inl (rw e)
-    else-is false e true f = inr (rw (e, f))
-    else-is false e false f = absurd (true≢false (rw (e, f) at a))
-
-    pub acquire-else : (l : Lock) → acquireIn (phaseOf d b c) i t l j ≡ judged Reducible j
-    acquire-else l = ⊎-elim (λ e. ap (λ (p : Phase). acquireIn p i t l j) e) (λ e. ap (λ (p : Phase). acquireIn p i t l j) e) (else-is (eqb d 0) refl (eqb c 0) refl)
-
-    pub unprotected-else : (n : Judging) → unprotectedIn (phaseOf d b c) i t n j ≡ judged Reducible n
-    unprotected-else n = ⊎-elim (λ e. ap (λ (p : Phase). unprotectedIn p i t n j) e) (λ e. ap (λ (p : Phase). unprotectedIn p i t n j) e) (else-is (eqb d 0) refl (eqb c 0) refl)
 
 -- a frame that goes wrong leaves the state as it was
 abbrev Keeps : Judging → Judged → Type 0

@@ -21,7 +21,7 @@ use Rattle.soundness.specs.declared.Outcome.{Outcome}
 use Rattle.soundness.specs.declared.Outcome.the-variants as outcome
 use Rattle.soundness.specs.declared.CheckReply.{CheckReply}
 use Rattle.soundness.specs.declared.CheckReply.the-variants as check
-use Rattle.judge.specs.Rules.{Judging, judged}
+use Rattle.instrumented.specs.Rules.{Judging, judged}
 use Rattle.pass.specs.Pass.{Ended, ended, judgeFrame, onDecoded, onOutcome, judgeFrom, startJudging, onCheck, judgement, setsOf, afterCheck}
 
 abbrev pub onFused : Verdict → List ℕ → CheckReply → Ended → Ended

@@ -20,9 +20,9 @@ use Rattle.soundness.specs.declared.Outcome.{Outcome}
 use Rattle.soundness.specs.declared.Outcome.the-variants as outcome
 use Rattle.soundness.specs.declared.CheckReply.{CheckReply}
 use Rattle.soundness.specs.declared.CheckReply.the-variants as check
-use Rattle.judge.specs.Rules.{Phase, outside, before, after, Judging, Judged, phaseAt, contains, withCommit, committed, acquireIn, unprotectedIn, judgeOperation}
-use Rattle.judge.specs.declared.Operation.{Operation}
-use Rattle.judge.specs.declared.Operation.the-variants.{Acquire, Release, Protected, Unprotected, Inferred, Begin, End}
+use Rattle.instrumented.specs.Rules.{Phase, outside, before, after, Judging, Judged, phaseAt, contains, withCommit, committed, acquireIn, unprotectedIn, judgeOperation}
+use Rattle.operation.specs.declared.Operation.{Operation}
+use Rattle.operation.specs.declared.Operation.the-variants.{Acquire, Release, Protected, Unprotected, Inferred, Begin, End}
 use Rattle.pass.specs.Pass.{Ended, judgeFrame, onOutcome, onVerdict, judgeFrom, startJudging, onCheck, judgement}
 
 -- what is judged has as many sets as before

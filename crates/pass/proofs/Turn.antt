@@ -25,9 +25,10 @@ use Rattle.reply.specs.declared.Reply.{Reply}
 use Rattle.reply.specs.declared.Violation.{Violation}
 use Rattle.reply.specs.declared.Verdict.{Verdict}
 use Rattle.reply.specs.declared.Verdict.the-variants as verdict
-use Rattle.judge.specs.declared.Operation.{Operation}
-use Rattle.judge.specs.Rules.{Judging, judgingOf, judged, operationOf, judgeOperation}
-use Rattle.judge.specs.Held.{heldSet, Holdable, held, holding}
+use Rattle.operation.specs.declared.Operation.{Operation}
+use Rattle.instrumented.specs.Rules.{Judging, judgingOf, judged, judgeOperation}
+use Rattle.operation.specs.Operation.{operationOf}
+use Rattle.instrumented.specs.Held.{heldSet, Holdable, held, holding}
 use Rattle.judge.proofs.Held.{mine, mine-other, held-lt, held-none, held-same, held-take, held-free}
 use Rattle.judge.proofs.Laws.{access-fits, access-holds, wrong-keeps}
 use Rattle.pass.specs.Pass.{Ended, ended, judgeFrame, startJudging, judgement, setsOf, afterCheck}

@@ -17,8 +17,9 @@ use Rattle.soundness.specs.declared.Outcome.{Outcome}
 use Rattle.soundness.specs.declared.Outcome.the-variants as outcome
 use Rattle.soundness.specs.declared.CheckReply.{CheckReply}
 use Rattle.soundness.specs.declared.CheckReply.the-variants as check
-use Rattle.judge.specs.Rules.{Judging, judgingOf, Judged, operationOf, judgeOperation}
-use Rattle.judge.specs.Held.{heldSet}
+use Rattle.instrumented.specs.Rules.{Judging, judgingOf, Judged, judgeOperation}
+use Rattle.operation.specs.Operation.{operationOf}
+use Rattle.instrumented.specs.Held.{heldSet}
 
 -- The reply, and the candidate sets that are left.
 pub record Ended : Type 0 where

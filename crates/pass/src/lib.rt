@@ -51,7 +51,7 @@ fn run(words: &[u32], guards: &[u8; 1024], sets: &mut [u64; 1024]) -> Reply
             });
         };
         let a = f.action;
-        let op = judge::operation_of(guards, a);
+        let op = operation::operation_of(guards, a);
         let v = judge::judge(
             &mut held,
             &mut begins,

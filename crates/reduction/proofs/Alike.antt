@@ -7,12 +7,11 @@ use Rattle.frame.specs.declared.Lock.{Lock}
 use Rattle.frame.specs.declared.Variable.{Variable}
 use Rattle.frame.specs.declared.Action.{Action}
 use Rattle.frame.specs.declared.Frame.{Frame}
-use Rattle.judge.specs.Rules.{operationOf}
-use Rattle.judge.specs.declared.Operation.{Operation}
-use Rattle.judge.specs.declared.Operation.the-variants.{Protected, Inferred}
+use Rattle.operation.specs.Operation.{operationOf}
+use Rattle.operation.specs.declared.Operation.{Operation}
+use Rattle.operation.specs.declared.Operation.the-variants.{Protected, Inferred}
 use Rattle.reduction.proofs.Run.{threadOf, Run, begin, put, owners, deeper, mark, onto, commitPlace, keyOf, keyed}
 use Rattle.reduction.proofs.Serial.{serialOrder}
-use Rattle.reduction.proofs.Units.{walk}
 
 -- Two operations that do the same to locks, depths and commits.
 pub record Alike (k k′ : Operation) : Type 0 where

@@ -18,9 +18,9 @@ use Rattle.frame.specs.declared.Frame.{Frame}
 use Rattle.guards.specs.Guards.{guardOf}
 use Rattle.guards.specs.declared.Guard.{Guard}
 use Rattle.guards.specs.declared.Guard.the-variants as guard
-use Rattle.judge.specs.Rules.{guardedAccess, operationOf}
-use Rattle.judge.specs.declared.Operation.{Operation}
-use Rattle.judge.specs.declared.Operation.the-variants.{Acquire, Release, Protected, Unprotected, Inferred, Begin, End}
+use Rattle.operation.specs.Operation.{guardedAccess, operationOf}
+use Rattle.operation.specs.declared.Operation.{Operation}
+use Rattle.operation.specs.declared.Operation.the-variants.{Acquire, Release, Protected, Unprotected, Inferred, Begin, End}
 use Rattle.exchange.specs.Independent.{independent}
 use Rattle.reduction.proofs.Run.{threadOf, Run, Keyed, sound, right, owners, seen, onto, Good, commitPlace, keyOf, keyed}
 use Rattle.reduction.proofs.Sort.{All, all-map, all-intro, all-map₂, Ordered, Right}

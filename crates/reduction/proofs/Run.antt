@@ -8,9 +8,9 @@ use lib.Dec.{eqb, leb, ltb}
 use Rattle.frame.specs.declared.Action.{Action}
 use Rattle.frame.specs.declared.Action.the-variants as action
 use Rattle.frame.specs.declared.Frame.{Frame}
-use Rattle.judge.specs.Rules.{operationOf}
-use Rattle.judge.specs.declared.Operation.{Operation}
-use Rattle.judge.specs.declared.Operation.the-variants.{Acquire, Release, Protected, Unprotected, Inferred, Begin, End}
+use Rattle.operation.specs.Operation.{operationOf}
+use Rattle.operation.specs.declared.Operation.{Operation}
+use Rattle.operation.specs.declared.Operation.the-variants.{Acquire, Release, Protected, Unprotected, Inferred, Begin, End}
 
 -- The number of a frame's thread.
 abbrev pub threadOf : Frame → ℕ

@@ -10,8 +10,8 @@ use lib.Dec.{eqb, leb}
 use borrow.Author.Tests.{eqb-true, eqb-false, eq-eqb, ne-eqb}
 use Rattle.frame.proofs.Shared.{either}
 use Rattle.frame.specs.declared.Frame.{Frame}
-use Rattle.judge.specs.declared.Operation.{Operation}
-use Rattle.judge.specs.declared.Operation.the-variants.{Acquire, Release, Protected, Unprotected, Inferred, Begin, End}
+use Rattle.operation.specs.declared.Operation.{Operation}
+use Rattle.operation.specs.declared.Operation.the-variants.{Acquire, Release, Protected, Unprotected, Inferred, Begin, End}
 use Rattle.reduction.proofs.Run.{threadOf, Run, put, deeper, mark, settled, seen, onto, commitPlace, keyOf, keyed}
 use Rattle.reduction.proofs.Sort.{All}
 

@@ -10,8 +10,8 @@ use lib.Dec.{eqb, leb}
 use lib.ListN.{length}
 use borrow.Author.Tests.{leb-false, eqb-true, eqb-false, eq-eqb, ne-eqb}
 use Rattle.frame.specs.declared.Frame.{Frame}
-use Rattle.judge.specs.declared.Operation.{Operation}
-use Rattle.judge.specs.declared.Operation.the-variants.{Acquire, Release, Protected, Unprotected, Inferred, Begin, End}
+use Rattle.operation.specs.declared.Operation.{Operation}
+use Rattle.operation.specs.declared.Operation.the-variants.{Acquire, Release, Protected, Unprotected, Inferred, Begin, End}
 use Rattle.reduction.proofs.Run.{threadOf, Run, begin, deeper, mark, settled, Keyed, seen, onto, commitPlace, keyOf, keyed, nest, depthAt, Closed}
 use Rattle.reduction.proofs.Sort.{frames, bucket, buckets}
 use Rattle.reduction.proofs.Steps.{by-test, put-other, put-cases, mark-elim, Past, past-next, Turn, turn, here, on, other, depth-own, committed-own, key-before, key-after, commitPlace-le}

@@ -9,7 +9,7 @@ use borrow.Author.Tests.{eq-eqb, eqb-true}
 use lib.Bits.{bitAnd, and-step, and-shr}
 use lib.Pow.{pow-pos}
 use Rattle.frame.specs.declared.Lock.{Lock}
-use Rattle.judge.specs.Rules.{contains}
+use Rattle.instrumented.specs.Rules.{contains}
 
 -- bit m of a number
 abbrev pub bit : ℕ → ℕ → ℕ

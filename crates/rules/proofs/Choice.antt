@@ -32,10 +32,11 @@ use Rattle.reply.specs.declared.Verdict.the-variants as verdict
 use Rattle.soundness.specs.Soundness.{State, stepFrame, start}
 use Rattle.soundness.specs.declared.Outcome.{Outcome}
 use Rattle.soundness.specs.declared.Outcome.the-variants as outcome
-use Rattle.judge.specs.Rules.{Phase, outside, before, after, Judging, judgingOf, Judged, judged, phaseAt, contains, withCommit, committed, acquireIn, unprotectedIn, guardedAccess, accessOf, operationOf, judgeOperation}
-use Rattle.judge.specs.Held.{heldSet}
-use Rattle.judge.specs.declared.Operation.{Operation}
-use Rattle.judge.specs.declared.Operation.the-variants.{Acquire, Release, Protected, Unprotected, Inferred, Begin, End}
+use Rattle.instrumented.specs.Rules.{Phase, outside, before, after, Judging, judgingOf, Judged, judged, phaseAt, contains, withCommit, committed, acquireIn, unprotectedIn, judgeOperation}
+use Rattle.operation.specs.Operation.{guardedAccess, accessOf, operationOf}
+use Rattle.instrumented.specs.Held.{heldSet}
+use Rattle.operation.specs.declared.Operation.{Operation}
+use Rattle.operation.specs.declared.Operation.the-variants.{Acquire, Release, Protected, Unprotected, Inferred, Begin, End}
 use Rattle.pass.specs.Pass.{Ended, judgeFrame, judgeFrom, startJudging, allLocks, fullSets, judgement}
 use Rattle.pass.proofs.Judgement.{judgement-pass, judgement-sound}
 use Rattle.verdict.specs.Verdict.{inferredGuards, inferredReply}

@@ -27,7 +27,7 @@ use Rattle.reply.specs.Reply.{reducible, violated}
 use Rattle.reply.specs.declared.Kind.{Kind}
 use Rattle.reply.specs.declared.Kind.the-variants.{GuardNotHeld, UnprotectedAfterCommit, AcquireAfterCommit, SetEmptied}
 use Rattle.reply.specs.declared.Violation.{Violation}
-use Rattle.judge.specs.Rules.{Judging}
+use Rattle.instrumented.specs.Rules.{Judging}
 use Rattle.pass.specs.Pass.{Ended, allLocks, fullSets, judgeFrame, judgeFrom, startJudging, judgement}
 use Rattle.rules.specs.Figures.{Stage, Outside, PreCommit, PostCommit, Store, putStage, putLocks, owner, depth, shared, Accesses, reads, writes, Steps, ins-access-protected, ins-race-commit, ins-race-outside, ins-acquire, ins-release-commit, ins-release-outside, ins-enter, ins-nested-enter, ins-exit, ins-nested-exit, ins2-access, Wrong, wrong-access-protected, wrong-race-violate, wrong-acquire, wrong2-race, AllStep, end, step, WrongAt, here, later, startStore, guarding, VerdictIsOfTheRules}
 use Rattle.frame.proofs.Shared.{never, getD-filled}

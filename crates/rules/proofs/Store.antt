@@ -25,9 +25,10 @@ use Rattle.reply.specs.declared.Violation.{Violation}
 use Rattle.reply.specs.declared.Verdict.the-variants as verdict
 use Rattle.soundness.specs.Soundness.{State, Stepped, stepped, stepAction, stepFrame}
 use Rattle.soundness.specs.declared.Outcome.the-variants as outcome
-use Rattle.judge.specs.Rules.{Judging, judgingOf, Judged, judged, phaseAt, contains, committed, withCommit, acquireIn, unprotectedIn, guardedAccess, operationOf, judgeOperation}
-use Rattle.judge.specs.Held.{heldSet}
-use Rattle.judge.specs.declared.Operation.the-variants.{Protected, Inferred, Begin, End}
+use Rattle.instrumented.specs.Rules.{Judging, judgingOf, Judged, judged, phaseAt, contains, committed, withCommit, acquireIn, unprotectedIn, judgeOperation}
+use Rattle.operation.specs.Operation.{guardedAccess, operationOf}
+use Rattle.instrumented.specs.Held.{heldSet}
+use Rattle.operation.specs.declared.Operation.the-variants.{Protected, Inferred, Begin, End}
 use Rattle.pass.specs.Pass.{judgeFrame}
 use Rattle.frame.proofs.Shared.{never}
 use Rattle.soundness.proofs.Laws.{passed, spared}

@@ -27,7 +27,7 @@ use Rattle.reply.specs.Reply.{reducible, violated}
 use Rattle.reply.specs.declared.Kind.{Kind}
 use Rattle.reply.specs.declared.Kind.the-variants.{GuardNotHeld, UnprotectedAfterCommit, AcquireAfterCommit, SetEmptied}
 use Rattle.reply.specs.declared.Violation.{Violation}
-use Rattle.judge.specs.Held.{heldSet}
+use Rattle.instrumented.specs.Held.{heldSet}
 use Rattle.pass.specs.Pass.{fullSets, judgement}
 
 -- The paper's instrumentation store φ: the phase of each thread, and the candidate lock set of each variable.

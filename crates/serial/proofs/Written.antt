@@ -4,9 +4,8 @@ use mathlib.Core.Path.{_≡_, _∙_, sym, ap, refl, subst}
 use mathlib.Core.List.{List, [], _∷_, _++_, append-assoc, append-nil}
 use native.Mathlib.Omega.{arith}
 use native.Mathlib.Numerals.{add-one}
-use lib.ListN.{length, take, drop, set, length-set, length-append, length-drop, take-append-drop}
+use lib.ListN.{length, take, drop, set, length-set, length-append, length-drop, take-append-drop, drop-of-length-le}
 use lib.Seq.{take-suc-set, drop-set-lt, append-snoc, drop-drop, drop-at, take-at, take-all, length-take-le}
-use lib.ListN.{drop-of-length-le}
 
 -- of the words whole, the first n stand at the front of out, the words rest are still to come, and behind n out is as it was
 pub record Written (out₀ out : List ℕ) (n : ℕ) (whole rest : List ℕ) : Type 0 where

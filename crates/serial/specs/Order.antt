@@ -14,7 +14,7 @@ use Rattle.frame.specs.declared.Frame.{Frame}
 use Rattle.frame.specs.declared.Decoded.{Decoded}
 use Rattle.frame.specs.declared.Decoded.the-variants as decoded
 use Rattle.soundness.specs.Soundness.{State, stepFrame, checkFrom, start}
-use Rattle.judge.specs.Rules.{Phase, outside, before, after, Judging, phaseAt}
+use Rattle.instrumented.specs.Rules.{Phase, outside, before, after, Judging, phaseAt}
 use Rattle.pass.specs.Pass.{judgeFrame, startJudging, fullSets}
 
 -- The state of a judging pass: locks and depths, and where the threads stand.

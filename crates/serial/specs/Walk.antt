@@ -15,7 +15,7 @@ use Rattle.frame.specs.declared.Decoded.the-variants as decoded
 use Rattle.soundness.specs.Soundness.{stepFrame}
 use Rattle.soundness.specs.declared.Outcome.{Outcome}
 use Rattle.soundness.specs.declared.Outcome.the-variants as outcome
-use Rattle.judge.specs.Rules.{Phase, outside, before, after}
+use Rattle.instrumented.specs.Rules.{Phase, outside, before, after}
 use Rattle.reply.specs.declared.Mark.{Mark}
 use Rattle.reply.specs.declared.Mark.the-variants.{At, Absent}
 use Rattle.reply.specs.declared.Verdict.{Verdict}

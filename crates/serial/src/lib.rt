@@ -8,7 +8,7 @@ ghost use mathlib.Core.Bool.{cond};
 ghost use mathlib.Core.List.{_++_};
 ghost use Prim.Native.Nat.{_+_, _≤_};
 ghost use lib.ListN.{length, take, drop};
-ghost use Rattle.judge.specs.Rules.{phaseOf};
+ghost use Rattle.instrumented.specs.Rules.{phaseOf};
 ghost use Rattle.serial.specs.Order.{settled};
 ghost use Rattle.serial.specs.Walk.{ownFrame, unitOf, unitIn, unitStart, earlier, firstOpenFrom};
 

@@ -36,7 +36,7 @@ pub fn write_order(words: &[u32], guards: &[u8; 1024], out: &mut [u32])
             return;
         };
         let a = f.action;
-        let op = judge::operation_of(guards, a);
+        let op = operation::operation_of(guards, a);
         let v = judge::judge(
             &mut held,
             &mut begins,

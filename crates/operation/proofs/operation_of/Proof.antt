@@ -1,6 +1,6 @@
 use borrow.Author.Needs.{needs}
-use Rattle.judge.proofs.operation_of.Statement.{statement}
-use Rattle.judge.proofs.operation_of.Tie as tie
+use Rattle.operation.proofs.operation_of.Statement.{statement}
+use Rattle.operation.proofs.operation_of.Tie as tie
 
 enum-known-a : tie.Need-enum-known-a
 enum-known-a c = search needs

@@ -6,8 +6,8 @@ use lib.Dec.{eqb}
 use lib.ListN.{getD, set}
 use Rattle.reply.specs.declared.Verdict.{Verdict}
 use Rattle.reply.specs.declared.Verdict.the-variants.{Reducible, Violated}
-use Rattle.judge.specs.declared.Operation.{Operation}
-use Rattle.judge.specs.declared.Operation.the-variants.{Acquire, Release, Protected, Unprotected, Inferred, Begin, End}
+use Rattle.operation.specs.declared.Operation.{Operation}
+use Rattle.operation.specs.declared.Operation.the-variants.{Acquire, Release, Protected, Unprotected, Inferred, Begin, End}
 
 -- The set of the locks that thread t holds: "Lock n is bit n of a 64-bit set." Owners are 0, or a thread's number plus 1.
 abbrev pub heldSet : ℕ → List ℕ → ℕ

@@ -1,7 +1,7 @@
-use Rattle.judge.proofs.Laws.{shl-one}
+use Rattle.instrumented.proofs.Laws.{shl-one}
 use borrow.Author.Needs.{needs}
-use Rattle.judge.proofs.single.Statement.{statement}
-use Rattle.judge.proofs.single.Tie as tie
+use Rattle.instrumented.proofs.single.Statement.{statement}
+use Rattle.instrumented.proofs.single.Tie as tie
 
 cast-result : tie.Need-cast-result
 cast-result c = search needs

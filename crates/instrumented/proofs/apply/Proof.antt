@@ -4,10 +4,10 @@ use native.Mathlib.Omega.{arith}
 use lib.ListN.{getD}
 use borrow.Author.Tests.{eq-eqb, ne-eqb}
 use borrow.Author.Needs.{needs}
-use Rattle.judge.specs.Rules.{judgeOperation, judgingOf, withCommit, committed}
-use Rattle.judge.proofs.Laws.{acquire-after, acquire-else, unprotected-after, unprotected-else}
-use Rattle.judge.proofs.apply.Statement.{statement}
-use Rattle.judge.proofs.apply.Tie as tie
+use Rattle.instrumented.specs.Rules.{judgeOperation, judgingOf, withCommit, committed}
+use Rattle.instrumented.proofs.Laws.{acquire-after, acquire-else, unprotected-after, unprotected-else}
+use Rattle.instrumented.proofs.apply.Statement.{statement}
+use Rattle.instrumented.proofs.apply.Tie as tie
 
 cast-k : tie.Need-cast-k
 cast-k c = search needs

@@ -1,7 +1,7 @@
 use mathlib.Core.Path.{sym, _∙_}
 use borrow.Author.Needs.{needs}
-use Rattle.judge.proofs.access_of.Statement.{statement}
-use Rattle.judge.proofs.access_of.Tie as tie
+use Rattle.operation.proofs.access_of.Statement.{statement}
+use Rattle.operation.proofs.access_of.Tie as tie
 
 cast-n : tie.Need-cast-n
 cast-n c = search needs

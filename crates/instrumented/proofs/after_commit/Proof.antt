@@ -1,6 +1,6 @@
 use borrow.Author.Tests.{eq-eqb, ne-eqb}
-use Rattle.judge.proofs.after_commit.Statement.{statement}
-use Rattle.judge.proofs.after_commit.Tie as tie
+use Rattle.instrumented.proofs.after_commit.Statement.{statement}
+use Rattle.instrumented.proofs.after_commit.Tie as tie
 
 returns : tie.Need-returns
 returns c = simp (eq-eqb _ _ (c .if1 .taken))

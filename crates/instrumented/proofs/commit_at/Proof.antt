@@ -1,7 +1,7 @@
 use borrow.Author.Tests.{eq-eqb, ne-eqb}
 use borrow.Author.Needs.{needs}
-use Rattle.judge.proofs.commit_at.Statement.{statement}
-use Rattle.judge.proofs.commit_at.Tie as tie
+use Rattle.instrumented.proofs.commit_at.Statement.{statement}
+use Rattle.instrumented.proofs.commit_at.Tie as tie
 
 returns : tie.Need-returns
 returns c = simp (eq-eqb _ _ (c .if1 .taken))

@@ -1,5 +1,5 @@
 -- The instrumented rules of the paper's figures 8 and 11 as a step function: what a sound frame does to its thread and to the candidate
--- sets. In this order: where a thread stands, the state, violations, an action as the rules see it, the step.
+-- sets. In this order: where a thread stands, the state, violations, the step.
 use Prim.Native.Nat.{ℕ, _+_, _-_, _^_, _/_, _%_}
 use mathlib.Core.Bool.{Bool, cond}
 use mathlib.Core.List.{List}
@@ -8,22 +8,16 @@ use lib.Dec.{eqb}
 use lib.ListN.{getD, set}
 use Rattle.frame.specs.declared.Thread.{Thread}
 use Rattle.frame.specs.declared.Lock.{Lock}
-use Rattle.frame.specs.declared.Variable.{Variable}
-use Rattle.frame.specs.declared.Action.{Action}
-use Rattle.frame.specs.declared.Action.the-variants as action
-use Rattle.guards.specs.Guards.{guardOf}
-use Rattle.guards.specs.declared.Guard.{Guard}
-use Rattle.guards.specs.declared.Guard.the-variants as guard
 use Rattle.reply.specs.declared.Kind.{Kind}
 use Rattle.reply.specs.declared.Kind.the-variants as kind
 use Rattle.reply.specs.declared.Mark.{Mark}
 use Rattle.reply.specs.declared.Mark.the-variants.{At, Absent}
 use Rattle.reply.specs.declared.Verdict.{Verdict}
 use Rattle.reply.specs.declared.Verdict.the-variants.{Reducible, Violated}
-use Rattle.judge.specs.declared.Fault.{Fault}
-use Rattle.judge.specs.declared.Fault.the-variants as fault
-use Rattle.judge.specs.declared.Operation.{Operation}
-use Rattle.judge.specs.declared.Operation.the-variants.{Acquire, Release, Protected, Unprotected, Inferred, Begin, End}
+use Rattle.instrumented.specs.declared.Fault.{Fault}
+use Rattle.instrumented.specs.declared.Fault.the-variants as fault
+use Rattle.operation.specs.declared.Operation.{Operation}
+use Rattle.operation.specs.declared.Operation.the-variants.{Acquire, Release, Protected, Unprotected, Inferred, Begin, End}
 
 -- "Each thread is outside, before commit or after commit." With the places of the outermost begin and of the commit.
 pub data Phase : Type 0 where
@@ -75,23 +69,6 @@ violation k i t p locks =
 abbrev pub faultVerdict : Fault → ℕ → Thread → Phase → Verdict
 faultVerdict fault.None i t p = Reducible
 faultVerdict (fault.Wrong k locks) i t p = violation k i t p locks
-
--- An action as the rules see it, by the guard of the variable that it accesses; `guards` has the code of each variable's guard.
-abbrev pub guardedAccess : Guard → Variable → Operation
-guardedAccess (guard.Locked m) v = Protected m
-guardedAccess guard.Unprotected v = Unprotected
-guardedAccess guard.Inferred v = Inferred v
-
-abbrev pub accessOf : List ℕ → Variable → Operation
-accessOf guards v = guardedAccess (guardOf (getD guards (v .0) 0)) v
-
-abbrev pub operationOf : List ℕ → Action → Operation
-operationOf guards (action.Acquire l) = Acquire l
-operationOf guards (action.Release l) = Release l
-operationOf guards (action.Read v) = accessOf guards v
-operationOf guards (action.Write v) = accessOf guards v
-operationOf guards action.Begin = Begin
-operationOf guards action.End = End
 
 -- "Lock n is bit n of a 64-bit set."
 abbrev pub contains : ℕ → Lock → Bool

@@ -1,0 +1,2 @@
+-- Laws of the rules for one operation.
+mod Laws

@@ -1,0 +1,47 @@
+// An action as the rules see it, by the guard of the variable that it accesses.
+use frame::Action;
+use frame::Lock;
+use frame::Variable;
+use guards::Guard;
+ghost use mathlib.Core.Path.{_≡_};
+ghost use Prim.Native.Nat.{_-_, _<_};
+ghost use Rattle.frame.specs.Frame.{ObjectInRange};
+ghost use Rattle.operation.specs.Operation.{operationOf, accessOf};
+
+// An action as the rules see it: an access is one under its guard, an unprotected one, or one whose guard is inferred.
+pub enum Operation {
+    Acquire(Lock),
+    Release(Lock),
+    Protected(Lock),
+    Unprotected,
+    Inferred(Variable),
+    Begin,
+    End,
+}
+
+fn access_of(guards: &[u8; 1024], v: Variable) -> Operation
+    requires { ⌜ v .0 < 1024 ⌝ }
+    ensures { λ r. ⌜ r ≡ accessOf (now (guards .entry)) v ⌝ }
+{
+    let n = v.0 as usize;
+    let g = guards::guard_of(guards[n]);
+    match g {
+        Guard::Locked(m) => Operation::Protected(m),
+        Guard::Unprotected => Operation::Unprotected,
+        Guard::Inferred => Operation::Inferred(v),
+    }
+}
+
+pub fn operation_of(guards: &[u8; 1024], a: Action) -> Operation
+    requires { ⌜ ObjectInRange a ⌝ }
+    ensures { λ r. ⌜ r ≡ operationOf (now (guards .entry)) a ⌝ }
+{
+    match a {
+        Action::Acquire(l) => Operation::Acquire(l),
+        Action::Release(l) => Operation::Release(l),
+        Action::Read(v) => access_of(guards, v),
+        Action::Write(v) => access_of(guards, v),
+        Action::Begin => Operation::Begin,
+        Action::End => Operation::End,
+    }
+}
