@@ -76,10 +76,12 @@ pub fn apply(
     let k = thread.0 as usize;
     let h = held[k];
     let c = commits[k];
+    let late = after_commit(d, c);
+    let m = commit_at(d, c, i);
     match op {
         Operation::Acquire(l) => {
             let s = single(l);
-            if after_commit(d, c) {
+            if late {
                 return Fault::Wrong(Kind::AcquireAfterCommit, s);
             }
             held[k] = h + s;
@@ -87,20 +89,20 @@ pub fn apply(
         }
         Operation::Release(l) => {
             held[k] = h - single(l);
-            commits[k] = commit_at(d, c, i);
+            commits[k] = m;
             Fault::None
         }
-        Operation::Protected(m) => {
-            if contains(h, m) {
+        Operation::Protected(g) => {
+            if contains(h, g) {
                 return Fault::None;
             }
-            Fault::Wrong(Kind::GuardNotHeld, single(m))
+            Fault::Wrong(Kind::GuardNotHeld, single(g))
         }
         Operation::Unprotected => {
-            if after_commit(d, c) {
+            if late {
                 return Fault::Wrong(Kind::UnprotectedAfterCommit, 0);
             }
-            commits[k] = commit_at(d, c, i);
+            commits[k] = m;
             Fault::None
         }
         Operation::Inferred(v) => {
