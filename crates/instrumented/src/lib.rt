@@ -74,41 +74,38 @@ pub fn apply(
     ensures locks { λ r. ⌜ now (held .exit) ≡ holding (faultVerdict r i thread (phaseAt d thread (judgingOf (now (begins .entry)) (now (commits .entry)) (now (sets .entry))))) (thread .0) op (now (held .entry)) ⌝ }
 {
     let k = thread.0 as usize;
-    let h = held[k];
-    let c = commits[k];
-    let late = after_commit(d, c);
-    let m = commit_at(d, c, i);
     match op {
         Operation::Acquire(l) => {
             let s = single(l);
-            if late {
+            if after_commit(d, commits[k]) {
                 return Fault::Wrong(Kind::AcquireAfterCommit, s);
             }
-            held[k] = h + s;
+            held[k] = held[k] + s;
             Fault::None
         }
         Operation::Release(l) => {
-            held[k] = h - single(l);
-            commits[k] = m;
+            held[k] = held[k] - single(l);
+            commits[k] = commit_at(d, commits[k], i);
             Fault::None
         }
-        Operation::Protected(g) => {
-            if contains(h, g) {
+        Operation::Protected(m) => {
+            if contains(held[k], m) {
                 return Fault::None;
             }
-            Fault::Wrong(Kind::GuardNotHeld, single(g))
+            Fault::Wrong(Kind::GuardNotHeld, single(m))
         }
         Operation::Unprotected => {
-            if late {
+            let c = commits[k];
+            if after_commit(d, c) {
                 return Fault::Wrong(Kind::UnprotectedAfterCommit, 0);
             }
-            commits[k] = m;
+            commits[k] = commit_at(d, c, i);
             Fault::None
         }
         Operation::Inferred(v) => {
             let n = v.0 as usize;
             let s = sets[n];
-            let x = s & h;
+            let x = s & held[k];
             if x == 0 {
                 return Fault::Wrong(Kind::SetEmptied, s);
             }

@@ -1,6 +1,6 @@
 -- Laws of the step of one frame.
 use Prim.Native.Nat.{ℕ, _-_, _^_, _<_}
-use mathlib.Core.Path.{_≡_, refl, sym, ap}
+use mathlib.Core.Path.{_≡_, refl, sym, ap, _∙_}
 use mathlib.Core.Bool.{Bool, true, false, cond}
 use lib.Dec.{eqb, ltb}
 use borrow.Author.Tests.{ltb-true}
@@ -72,6 +72,11 @@ wrong-keeps i t d h (Inferred v) j =
 wrong-keeps i t d h Begin j =
     either (Keeps j) (eqb d 0) (keeps-go j (judgingOf (set (j .begins) (t .0) i) (set (j .commits) (t .0) 0) (j .sets))) (keeps-go j j)
 wrong-keeps i t d h End j = keeps-go j j
+
+-- so its begin and commit may be read off the state after it
+pub wrong-at : (i : ℕ) (t : Thread) (d h : ℕ) (o : Operation) (j k : Judging) (x : Kind) (locks : ℕ) → judgeOperation i t d h o j ≡ judged (violation x i t (phaseAt d t j) locks) k
+    → judgeOperation i t d h o j ≡ judged (violation x i t (phaseAt d t k) locks) k
+wrong-at i t d h o j k x locks e = e ∙ ap (λ (n : Judging). judged (violation x i t (phaseAt d t n) locks) k) (sym (wrong-keeps i t d h o j _ k e))
 
 -- an access holds and frees nothing, whatever its guard
 pub access-fits : (c : ℕ) (v : Variable) (h : ℕ) → v .0 < 1024 → Holdable (guardedAccess (guardOf c) v) h

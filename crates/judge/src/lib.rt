@@ -66,12 +66,12 @@ pub fn judge(
     ensures rules { λ r. ⌜ judgeOperation i thread d (getD (now (held .entry)) (thread .0) 0) op (judgingOf (now (begins .entry)) (now (commits .entry)) (now (sets .entry))) ≡ judged r (judgingOf (now (begins .exit)) (now (commits .exit)) (now (sets .exit))) ⌝ }
     ensures locks { λ r. ⌜ now (held .exit) ≡ holding r (thread .0) op (now (held .entry)) ⌝ }
 {
-    let k = thread.0 as usize;
-    let b = begins[k];
-    let c = commits[k];
     let f = instrumented::apply(held, begins, commits, sets, d, i, thread, op);
     match f {
         Fault::None => Verdict::Reducible,
-        Fault::Wrong(kind, locks) => wrong(kind, i, thread, d, b, c, locks),
+        Fault::Wrong(kind, locks) => {
+            let k = thread.0 as usize;
+            wrong(kind, i, thread, d, begins[k], commits[k], locks)
+        }
     }
 }
