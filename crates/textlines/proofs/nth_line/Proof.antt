@@ -1,10 +1,10 @@
 -- Invariant: line k of what is left is line n of the text.
-use Prim.Native.Nat.{_+_, _-_, _≤_, suc}
+use Prim.Native.Nat.{_-_, _≤_}
 use mathlib.Core.Path.{_≡_, refl, sym, ap, _∙_}
 use native.Mathlib.Omega.{arith}
 use borrow.Author.Needs.{needs}
 use lib.ListN.{length, drop}
-use Rattle.textlines.specs.Lines.{lineLength, nthLine}
+use Rattle.textlines.specs.Lines.{nthLine}
 use Rattle.textlines.proofs.Lines.{within, next-line, first-line}
 use Rattle.textlines.proofs.nth_line.Statement.{statement}
 use Rattle.textlines.proofs.nth_line.Tie as tie
