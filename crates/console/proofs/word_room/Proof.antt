@@ -1,0 +1,12 @@
+-- The number of zeros, by a law instead of a count.
+use Prim.Native.Nat.{ℕ}
+use mathlib.Core.Path.{sym}
+use lib.ListN.{length-replicate}
+use Rattle.console.proofs.word_room.Statement.{statement}
+use Rattle.console.proofs.word_room.Tie as tie
+
+returns : tie.Need-returns
+returns c = sym (length-replicate {A = ℕ} 131072 0)
+
+pub word-room-spec : {M : Type 1} → statement M
+word-room-spec = tie.close (tie.spec returns)

@@ -1,0 +1,142 @@
+// The tool's words, its files and standard output. What the words ask for is said by crate command. Files are opened for reading only.
+use command::Command;
+use command::Request;
+use libc::STDOUT_FILENO;
+ghost use mathlib.Core.Path.{_≡_};
+ghost use lib.ListN.{length};
+ghost use Rattle.io.specs.Counts.{Counts};
+
+// The bytes of a buffer: one more than any recording or serial order has. A guard list is shorter still.
+pub const ROOM: usize = 36865;
+
+// A buffer for a file or for what is printed: zeros, of which a caller's proof knows the number alone.
+pub fn room() -> [u8; ROOM]
+    ensures { λ r. ⌜ 36865 ≡ length r ⌝ }
+{
+    [0; ROOM]
+}
+
+// The same for a word. Linux hands out none of more than 131,071 bytes.
+fn word_room() -> [u8; 131072]
+    ensures { λ r. ⌜ 131072 ≡ length r ⌝ }
+{
+    [0; 131072]
+}
+
+pub fn print(text: &[u8]) {
+    io::write_all(STDOUT_FILENO, text);
+}
+
+// The line of bad use.
+fn complain(what: &[u8], name: &[u8]) {
+    print(what);
+    print(name);
+    print(b"\n");
+}
+
+fn help() {
+    print(
+        b"usage: tracetool verdict RECORDING [--guards LIST]   the verdict line
+       tracetool serial RECORDING [--guards LIST]    the serial order as lines
+       tracetool equal LEFT RIGHT                    equal, or not equal
+       tracetool explain RECORDING [--guards LIST]   the answer in words
+Guards are inferred without --guards, and declared with it. The first word printed says how it went.
+",
+    );
+}
+
+// How a command is used. The word is its name.
+fn misused(c: Command, word: &[u8]) {
+    print(b"error: use: tracetool ");
+    print(word);
+    match c {
+        Command::Equal => print(b" LEFT RIGHT\n"),
+        _ => print(b" RECORDING [--guards LIST]\n"),
+    }
+}
+
+// Help, or what is wrong with the words.
+fn say(r: Request, word: &[u8]) {
+    match r {
+        Request::Help => help(),
+        Request::Unknown => complain(b"error: no such command: ", word),
+        Request::Misused(c) => misused(c, word),
+        _ => {}
+    }
+}
+
+// What the words ask for, given the command's word. Help and bad use are said.
+fn asked(word: &[u8]) -> Request {
+    let mut option = [0u8; 16];
+    let k = os::arg(3, &mut option);
+    let r = command::request_of(os::arg_count(), word, &option[..k]);
+    say(r, word);
+    r
+}
+
+// The same, and that word read.
+pub fn request() -> Request {
+    let mut word = word_room();
+    let k = os::arg(1, &mut word);
+    asked(&word[..k])
+}
+
+// A file's bytes, up to a full buffer: how many, or one more than the buffer has where it cannot be read.
+fn read_all(fd: i32, buf: &mut [u8]) -> usize {
+    let mut done = 0;
+    loop {
+        let got = libc::read(fd, &mut buf[done..]);
+        if got < 0 {
+            return buf.len() + 1;
+        }
+        if got == 0 {
+            return done;
+        }
+        done += got as usize;
+    }
+}
+
+// Why a file cannot be read.
+fn unreadable(name: &[u8]) {
+    if name.len() == 0 {
+        complain(b"error: a file name is empty", name)
+    } else {
+        complain(b"error: cannot read ", name)
+    }
+}
+
+// The bytes of the file of a name: how many, or a full buffer where the use is bad, which is said. What cannot be opened cannot be read.
+fn load(name: &[u8], buf: &mut [u8]) -> usize
+    ensures { λ r. ⌜ Counts r (now (buf .exit)) ⌝ }
+{
+    let fd = os::open_read(name);
+    let n = read_all(fd, buf);
+    libc::close(fd);
+    if buf.len() < n {
+        unreadable(name);
+        return buf.len();
+    }
+    if n == buf.len() {
+        complain(
+            b"error: longer than any recording (4096 lines, 36864 bytes): ",
+            name,
+        );
+    }
+    n
+}
+
+// The same for the file that word i names.
+pub fn load_word(i: usize, buf: &mut [u8]) -> usize
+    ensures { λ r. ⌜ Counts r (now (buf .exit)) ⌝ }
+{
+    let mut name = word_room();
+    let k = os::arg(i, &mut name);
+    load(&name[..k], buf)
+}
+
+// The same where there is such a file; no bytes where there is none.
+pub fn load_second(there: bool, i: usize, buf: &mut [u8]) -> usize
+    ensures { λ r. ⌜ Counts r (now (buf .exit)) ⌝ }
+{
+    if there { load_word(i, buf) } else { 0 }
+}
