@@ -2,20 +2,6 @@
 // proved, and the faults that a wrong checker hides. Each line of standard input is a case; the file stdin says how a case is written.
 use libc::STDIN_FILENO;
 
-// A case: its letter, its options and its text.
-fn run(letter: u8, options: &[u8], text: &[u8]) {
-    let options = cases::read_options(options);
-    calls::option(&options, b' ', 0, 0);
-    calls::option(&options, 0, 0, 0);
-    let times = calls::option(&options, b'x', 1, 4097);
-    let mut room = io::large_buffer();
-    let n = cases::expand(text, times, &mut room);
-    if n == room.len() {
-        calls::bad();
-    }
-    calls::lend(letter, &options, &room[0..n]);
-}
-
 // A line of the input. Blank lines and comments are passed over.
 fn run_line(line: &[u8]) {
     if line.len() > 0 && line[0] != b'#' {
@@ -23,7 +9,7 @@ fn run_line(line: &[u8]) {
         if bar == line.len() {
             calls::bad();
         } else {
-            run(line[0], &line[1..bar], &line[bar + 1..]);
+            calls::run(line[0], &line[1..bar], &line[bar + 1..]);
         }
     }
 }

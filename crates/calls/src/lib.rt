@@ -15,7 +15,7 @@ fn number(n: u64) {
     io::write_all(STDOUT_FILENO, b"\n");
 }
 
-pub fn option(options: &[usize; 256], letter: u8, usual: usize, most: usize) -> usize
+fn option(options: &[usize; 256], letter: u8, usual: usize, most: usize) -> usize
     requires { ⌜ usual ≤ most ⌝ }
     ensures { λ r. ⌜ r ≤ most ⌝ }
 {
@@ -134,7 +134,7 @@ fn call(
 }
 
 // A call with the buffers that are lent to it.
-pub fn lend(letter: u8, options: &[usize; 256], text: &[u8]) {
+fn lend(letter: u8, options: &[usize; 256], text: &[u8]) {
     let mut words = word_room();
     let mut sets = set_room();
     let mut line = line_room();
@@ -149,4 +149,18 @@ pub fn lend(letter: u8, options: &[usize; 256], text: &[u8]) {
         &mut sets[0..s],
         &mut line[0..l],
     );
+}
+
+// A case: its letter, its options and its text.
+pub fn run(letter: u8, options: &[u8], text: &[u8]) {
+    let options = cases::read_options(options);
+    option(&options, b' ', 0, 0);
+    option(&options, 0, 0, 0);
+    let times = option(&options, b'x', 1, 4097);
+    let mut room = io::large_buffer();
+    let n = cases::expand(text, times, &mut room);
+    if n == room.len() {
+        bad();
+    }
+    lend(letter, &options, &room[0..n]);
 }
