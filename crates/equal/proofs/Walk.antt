@@ -21,9 +21,11 @@ use Rattle.exchange.proofs.Frames.{apart}
 use Rattle.exchange.proofs.Match.{Raised, rest, Well, Fits, rest-all, well-start, well-fits, well-on, well-back, well-end, fits-length}
 use Rattle.exchange.specs.Independent.{Named, lock, variable, neither, named, sameNamed, clash}
 use Rattle.exchange.specs.Exchange.{Exchanges, frameIn, frameOf}
-use Rattle.equal.specs.Equal.{equalWords}
+use Rattle.soundness.specs.Soundness.{checkReply}
+use Rattle.equal.specs.declared.EqualReply.the-variants.{Equal, Different}
+use Rattle.equal.specs.Equal.{sound, equalWords, yesOrNo}
 use Rattle.matching.specs.Places.{threadOf, wordAt, FoundIn, Lasts, lastsOf, lastAt, markAt}
-use Rattle.equal.proofs.Exchanges.{exchanges-equal, not-equal}
+use Rattle.equal.proofs.Exchanges.{yes, no}
 
 -- A store in an array, and what is read of it then.
 stored : (l : List ℕ) (k j q : ℕ) → k < length l → getD (set l k q) j 0 ≡ cond (eqb k j) q (getD l j 0)
@@ -107,9 +109,9 @@ walk-start l r e = record {
   sized = record { locks = refl; variables = refl };
 }
 
-pub walk-end : {l r : List ℕ} {i : ℕ} {ns : List ℕ} {c : Lasts} → Walking l r i ns c → length l ≤ i → equalWords l r ≡ true
-walk-end {l} {r} {i} {ns} {c} k h =
-    exchanges-equal l r (k .same .0 (rw (drop-of-length-le l h) (well-end threadOf clashing (wordAt r) (length r) (nextIn ns) (lastIn c) (omega (arith, k .left)))))
+pub walk-end : {l r : List ℕ} {i : ℕ} {ns : List ℕ} {c : Lasts} → checkReply l ≡ sound → Walking l r i ns c → length l ≤ i → Equal ≡ yesOrNo (equalWords l r)
+walk-end {l} {r} {i} {ns} {c} p k h =
+    yes l r p (k .same .0 (rw (drop-of-length-le l h) (well-end threadOf clashing (wordAt r) (length r) (nextIn ns) (lastIn c) (omega (arith, k .left)))))
 
 -- The turn at the frame f, whose next of its thread stands at p.
 module _ {l r : List ℕ} {i : ℕ} {ns : List ℕ} {c : Lasts} (k : Walking l r i ns c) (h : i < length l) {f : Frame} (e : decodeWord (wordAt l i) ≡ decoded.Frame f)
@@ -129,14 +131,14 @@ module _ {l r : List ℕ} {i : ℕ} {ns : List ℕ} {c : Lasts} (k : Walking l r
   fits : Exchanges apart l r → Fit
   fits x = well-fits threadOf clashing (wordAt r) (length r) (nextIn ns) (lastIn c) (wordAt l i) p here (drop (suc i) l) (rw opened at (k .same .1 x))
 
-  pub missing : p ≡ length r → equalWords l r ≡ false
-  missing q = not-equal l r (λ x. omega (arith, fits x .inside))
+  pub missing : p ≡ length r → Different ≡ yesOrNo (equalWords l r)
+  missing q = no l r (λ x. omega (arith, fits x .inside))
 
-  pub words-differ : (wordAt r p ≡ wordAt l i → ⊥) → equalWords l r ≡ false
-  words-differ q = not-equal l r (λ x. q (sym (fits x .is)))
+  pub words-differ : (wordAt r p ≡ wordAt l i → ⊥) → Different ≡ yesOrNo (equalWords l r)
+  words-differ q = no l r (λ x. q (sym (fits x .is)))
 
-  pub too-early : p + 1 ≤ lastAt (named (f .action)) c → equalWords l r ≡ false
-  too-early q = not-equal l r (λ x. omega (arith, fits x .after, rw is at q))
+  pub too-early : p + 1 ≤ lastAt (named (f .action)) c → Different ≡ yesOrNo (equalWords l r)
+  too-early q = no l r (λ x. omega (arith, fits x .after, rw is at q))
 
   range : InRange (frameOf (wordAt l i))
   range = subst InRange is (decoded-in-range (wordAt l i) f e)

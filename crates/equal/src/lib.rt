@@ -4,7 +4,7 @@ use frame::Refused;
 use soundness::CheckReply;
 ghost use mathlib.Core.Path.{_≡_};
 ghost use Rattle.soundness.specs.Soundness.{checkReply};
-ghost use Rattle.equal.specs.Equal.{sound, equalWords, equalReply};
+ghost use Rattle.equal.specs.Equal.{sound, equalWords, yesOrNo, equalReply};
 
 pub enum Side {
     Left,
@@ -18,13 +18,14 @@ pub enum EqualReply {
 }
 
 // Whether two sound recordings are equal. Each frame of the left is matched with the next of its thread in the right. These must be the
-// same, and two frames that name one lock or one variable must be matched in the same order.
-fn same(left: &[u32], right: &[u32]) -> bool
+// same, and two frames that name one lock or one variable must be matched in the same order. A word that is no frame is refused; the check
+// before has found none.
+fn same(left: &[u32], right: &[u32]) -> EqualReply
     requires { ⌜ checkReply (now left) ≡ sound ⌝ ∗ ⌜ checkReply (now right) ≡ sound ⌝ }
-    ensures { λ r. ⌜ r ≡ equalWords (now (left .entry)) (now (right .entry)) ⌝ }
+    ensures { λ r. ⌜ r ≡ yesOrNo (equalWords (now (left .entry)) (now (right .entry))) ⌝ }
 {
     if left.len() != right.len() {
-        return false;
+        return EqualReply::Different;
     }
     let mut next = [0usize; 32];
     let mut locks = [0u32; 64];
@@ -34,25 +35,31 @@ fn same(left: &[u32], right: &[u32]) -> bool
         let w = left[i];
         let d = frame::decode(w);
         let Decoded::Frame(f) = d else {
-            return false;
+            return EqualReply::Refused(
+                Side::Left,
+                Refused {
+                    reason: frame::refusal_of(d),
+                    place: i as u32,
+                },
+            );
         };
         let t = f.thread.0 as usize;
         let p = matching::find(right, next[t], t as u32);
         if p == right.len() {
-            return false;
+            return EqualReply::Different;
         }
         if right[p] != w {
-            return false;
+            return EqualReply::Different;
         }
         let a = f.action;
         let q = (p + 1) as u32;
         if !matching::mark(&mut locks, &mut variables, a, q) {
-            return false;
+            return EqualReply::Different;
         }
         next[t] = p + 1;
         i += 1;
     }
-    true
+    EqualReply::Equal
 }
 
 // The left recording is checked, then the right, then they are compared.
@@ -67,8 +74,5 @@ pub fn equal(left: &[u32], right: &[u32]) -> EqualReply
     if let CheckReply::Refused(x) = r {
         return EqualReply::Refused(Side::Right, x);
     }
-    if same(left, right) {
-        return EqualReply::Equal;
-    }
-    EqualReply::Different
+    same(left, right)
 }

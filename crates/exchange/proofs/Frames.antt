@@ -1,7 +1,8 @@
--- The words of a sound recording decode, so its frames stand for them: each is in its ranges, and its word is the recording's.
+-- The words of a sound recording decode, so its frames stand for them: each is in its ranges, and its word is the recording's. Exchanges of
+-- words are exchanges of frames.
 use Prim.Native.Nat.{ℕ, zero, suc, _+_, _<_}
 use mathlib.Core.Path.{_≡_, refl, sym, _∙_, subst}
-use mathlib.Core.Bool.{Bool, true}
+use mathlib.Core.Bool.{Bool, true, false≢true}
 use mathlib.Core.List.{List, [], _∷_, map}
 use native.Mathlib.Omega.{arith}
 use lib.ListN.{length, getD}
@@ -10,12 +11,13 @@ use Rattle.frame.proofs.Laws.{decoded-in-range, encode-decode, decode-encode}
 use Rattle.frame.specs.Frame.{decodeWord, encodeFrame, InRange}
 use Rattle.frame.specs.declared.Frame.{Frame}
 use Rattle.frame.specs.declared.Refusal.{Refusal}
+use Rattle.frame.specs.declared.Decoded.{Decoded}
 use Rattle.frame.specs.declared.Decoded.the-variants as decoded
 use Rattle.soundness.proofs.Laws.{check-short, sound-fits, sound-first}
 use Rattle.soundness.specs.Soundness.{State, checkFrom, checkReply, start}
 use Rattle.soundness.specs.declared.CheckReply.the-variants as check
 use Rattle.exchange.specs.Independent.{independent}
-use Rattle.exchange.specs.Exchange.{Exchange, here, later, Exchanges, done, step, frameOf, framesOf}
+use Rattle.exchange.specs.Exchange.{Exchange, here, later, Exchanges, done, step, independentIn, independentWords, frameIn, frameOf, framesOf}
 
 -- The word decodes, as its frame.
 abbrev pub Decodes : ℕ → Type 0
@@ -59,6 +61,31 @@ sound-not-bad {A} {b} ws e i h d = let z : decoded.Bad b ≡ decoded.Frame (fram
 -- Two words whose frames are independent.
 abbrev pub apart : ℕ → ℕ → Bool
 apart w v = independent (frameOf w) (frameOf v)
+
+-- words are independent where their frames are, and the other way round where both decode
+in-apart : (d e : Decoded) → independentIn d e ≡ true → independent (frameIn d) (frameIn e) ≡ true
+in-apart (decoded.Frame f) (decoded.Frame g) h = h
+in-apart (decoded.Frame f) (decoded.Bad r) h = absurd (false≢true h)
+in-apart (decoded.Bad r) e h = absurd (false≢true h)
+
+apart-in : (w v : ℕ) → Decodes w → Decodes v → apart w v ≡ true → independentWords w v ≡ true
+apart-in w v d e h = rw (d, e) h
+
+exchange-apart : {l r : List ℕ} → Exchange independentWords l r → Exchange apart l r
+exchange-apart (here {f = w} {g = v} i) = here (in-apart (decodeWord w) (decodeWord v) i)
+exchange-apart (later e) = later (exchange-apart e)
+
+pub words-apart : {l r : List ℕ} → Exchanges independentWords l r → Exchanges apart l r
+words-apart done = done
+words-apart (step e x) = step (exchange-apart e) (words-apart x)
+
+apart-exchange : {l r : List ℕ} → AllDecode l → Exchange apart l r → Exchange independentWords l r × AllDecode r
+apart-exchange d (here {f = w} {g = v} i) = (here (apart-in w v (d .0) (d .1 .0) i), (d .1 .0, (d .0, d .1 .1)))
+apart-exchange d (later e) = let q = apart-exchange (d .1) e in (later (q .0), (d .0, q .1))
+
+pub apart-words : {l r : List ℕ} → AllDecode l → Exchanges apart l r → Exchanges independentWords l r
+apart-words d done = done
+apart-words d (step e x) = let q = apart-exchange d e in step (q .0) (apart-words (q .1) x)
 
 exchange-frames : {l r : List ℕ} → Exchange apart l r → Exchange independent (framesOf l) (framesOf r)
 exchange-frames (here i) = here i

@@ -1,13 +1,14 @@
--- Lists that some number of exchanges of independent neighbours turn one into the other, and the frames of a recording.
+-- Lists that some number of exchanges of independent neighbours turn one into the other, and which words of a recording are independent.
 use Prim.Native.Nat.{ℕ}
 use mathlib.Core.Path.{_≡_}
-use mathlib.Core.Bool.{Bool, true}
+use mathlib.Core.Bool.{Bool, true, false}
 use mathlib.Core.List.{List, _∷_, map}
 use Rattle.frame.specs.Frame.{decodeWord}
 use Rattle.frame.specs.declared.Action.the-variants.{Begin}
 use Rattle.frame.specs.declared.Frame.{Frame}
 use Rattle.frame.specs.declared.Decoded.{Decoded}
 use Rattle.frame.specs.declared.Decoded.the-variants as decoded
+use Rattle.exchange.specs.Independent.{independent}
 
 -- Over any elements, and any test of which are independent.
 module _ {A : Type 0} (independent : A → A → Bool) where
@@ -22,7 +23,16 @@ module _ {A : Type 0} (independent : A → A → Bool) where
     done : {l : List A} → Exchanges l l
     step : {l m r : List A} → Exchange l m → Exchanges m r → Exchanges l r
 
--- The frame of a word. What does not decode is in no recording that passes the check; it is taken for a frame that touches nothing.
+-- Two words of a recording are independent if both are frames, and these are. A word that is no frame is exchanged with none.
+abbrev pub independentIn : Decoded → Decoded → Bool
+independentIn (decoded.Frame f) (decoded.Frame g) = independent f g
+independentIn (decoded.Frame f) (decoded.Bad r) = false
+independentIn (decoded.Bad r) d = false
+
+abbrev pub independentWords : ℕ → ℕ → Bool
+independentWords w v = independentIn (decodeWord w) (decodeWord v)
+
+-- The frame of a word, for laws of words that decode; what does not is taken for a frame that touches nothing. No claim speaks of it.
 abbrev pub frameIn : Decoded → Frame
 frameIn (decoded.Frame f) = f
 frameIn (decoded.Bad r) = record { thread = record { 0 = 0 }; action = Begin }
