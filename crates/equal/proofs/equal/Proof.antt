@@ -35,11 +35,7 @@ same-requires c κs =
 
 returns-3 : tie.Need-returns-3
 returns-3 c =
-    rw (sym (c .before .before .before .before .before .before .before .check .ensures) ∙ c .before .before .before .before .before .enum-told .given .1, sym (c .before .before .before .before .check2 .ensures) ∙ c .before .before .enum-told2 .given .1, sym (c .before .same .ensures) ∙ c .if1 .taken)
-
-returns-4 : tie.Need-returns-4
-returns-4 c =
-    rw (sym (c .before .before .before .before .before .before .before .check .ensures) ∙ c .before .before .before .before .before .enum-told .given .1, sym (c .before .before .before .before .check2 .ensures) ∙ c .before .before .enum-told2 .given .1, sym (c .before .same .ensures) ∙ c .if1 .left)
+    rw (sym (c .before .before .before .before .before .before .check .ensures) ∙ c .before .before .before .before .enum-told .given .1, sym (c .before .before .before .check2 .ensures) ∙ c .before .enum-told2 .given .1) (c .same .ensures)
 
 pub equal-spec : {M : Type 1} → statement M
 equal-spec =
@@ -54,5 +50,4 @@ equal-spec =
     returns-2
     enum-told-2
     same-requires
-    returns-3
-    returns-4)
+    returns-3)

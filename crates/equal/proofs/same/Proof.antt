@@ -10,7 +10,7 @@ use Rattle.soundness.proofs.Laws.{sound-fits}
 use Rattle.exchange.proofs.Exchange.{exchanges-length}
 use Rattle.exchange.proofs.Frames.{apart, sound-not-bad}
 use Rattle.matching.specs.Places.{lastsOf}
-use Rattle.equal.proofs.Exchanges.{not-equal}
+use Rattle.equal.proofs.Exchanges.{no}
 use Rattle.equal.proofs.Walk.{Walking, walk-start, walk-end, missing, words-differ, too-early, go-on}
 use Rattle.equal.proofs.same.Statement.{statement}
 use Rattle.equal.proofs.same.Tie as tie
@@ -22,7 +22,7 @@ abbrev μ-loop : tie.MeasureT-loop
 μ-loop left right next₀ locks₀ variables₀ i₀ next locks variables i = length left - i
 
 returns : tie.Need-returns Inv-loop μ-loop
-returns c = sym (not-equal _ _ (λ x. c .if1 .taken (exchanges-length apart x)))
+returns c = no _ _ (λ x. c .if1 .taken (exchanges-length apart x))
 
 loop-holds : tie.Need-loop-holds Inv-loop μ-loop
 loop-holds c = walk-start _ _ (c .if1 .left)
@@ -42,9 +42,16 @@ enum-known-d c = search needs
 enum-told : tie.Need-enum-told Inv-loop μ-loop
 enum-told c = search needs
 
+refusal-of-requires : tie.Need-refusal-of-requires Inv-loop μ-loop
+refusal-of-requires c κs = search needs
+
+cast-t23 : tie.Need-cast-t23 Inv-loop μ-loop
+cast-t23 c =
+    omega (arith, c .before .before .before .before .before .loop-test .taken, sound-fits (c .before .before .before .before .before .before .before .before .before .before .args .left .now) (c .before .before .before .before .before .before .before .before .before .before .pre .0))
+
 returns-2 : tie.Need-returns-2 Inv-loop μ-loop
 returns-2 c =
-    sound-not-bad (c .before .before .before .before .before .before .before .before .before .args .left .now) (c .before .before .before .before .before .before .before .before .before .pre .0) (c .before .before .before .before .before .loop .i) (c .before .before .before .before .loop-test .taken) (sym (c .before .before .decode .ensures) ∙ c .enum-told .given .1)
+    sound-not-bad (c .before .before .before .before .before .before .before .before .before .before .args .left .now) (c .before .before .before .before .before .before .before .before .before .before .pre .0) (c .before .before .before .before .before .before .loop .i) (c .before .before .before .before .before .loop-test .taken) (sym (c .before .before .before .decode .ensures) ∙ c .before .enum-told .given .1)
 
 cast-t : tie.Need-cast-t Inv-loop μ-loop
 cast-t c = search needs
@@ -65,7 +72,7 @@ find-requires c κs =
 
 returns-3 : tie.Need-returns-3 Inv-loop μ-loop
 returns-3 c =
-    sym (missing (c .before .before .before .before .before .before .before .before .before .loop .inv) (c .before .before .before .before .before .before .before .before .loop-test .taken) (sym (c .before .before .before .before .before .before .decode .ensures) ∙ c .before .before .before .before .d .given .1) (c .before .find .ensures) (c .if2 .taken))
+    missing (c .before .before .before .before .before .before .before .before .before .loop .inv) (c .before .before .before .before .before .before .before .before .loop-test .taken) (sym (c .before .before .before .before .before .before .decode .ensures) ∙ c .before .before .before .before .d .given .1) (c .before .find .ensures) (c .if2 .taken)
 
 mul-if3 : tie.Need-mul-if3 Inv-loop μ-loop
 mul-if3 c = search needs
@@ -75,7 +82,7 @@ shared-slice-read-if3 c = search needs
 
 returns-4 : tie.Need-returns-4 Inv-loop μ-loop
 returns-4 c =
-    sym (words-differ (c .before .before .before .before .before .before .before .before .before .before .before .loop .inv) (c .before .before .before .before .before .before .before .before .before .before .loop-test .taken) (sym (c .before .before .before .before .before .before .before .before .decode .ensures) ∙ c .before .before .before .before .before .before .d .given .1) (c .before .before .before .find .ensures) (c .if3 .taken))
+    words-differ (c .before .before .before .before .before .before .before .before .before .before .before .loop .inv) (c .before .before .before .before .before .before .before .before .before .before .loop-test .taken) (sym (c .before .before .before .before .before .before .before .before .decode .ensures) ∙ c .before .before .before .before .before .before .d .given .1) (c .before .before .before .find .ensures) (c .if3 .taken)
 
 add-q : tie.Need-add-q Inv-loop μ-loop
 add-q c = search needs
@@ -90,7 +97,7 @@ mark-requires c κs =
 
 returns-5 : tie.Need-returns-5 Inv-loop μ-loop
 returns-5 c =
-    sym (too-early (c .before .before .before .before .before .before .before .before .before .before .before .before .before .before .before .loop .inv) (c .before .before .before .before .before .before .before .before .before .before .before .before .before .before .loop-test .taken) (sym (c .before .before .before .before .before .before .before .before .before .before .before .before .decode .ensures) ∙ c .before .before .before .before .before .before .before .before .before .before .d .given .1) (c .before .before .before .before .before .before .before .find .ensures) (ltb-false _ _ (sym (c .before .mark .ensures .below) ∙ not-true _ (c .if4 .taken))))
+    too-early (c .before .before .before .before .before .before .before .before .before .before .before .before .before .before .before .loop .inv) (c .before .before .before .before .before .before .before .before .before .before .before .before .before .before .loop-test .taken) (sym (c .before .before .before .before .before .before .before .before .before .before .before .before .decode .ensures) ∙ c .before .before .before .before .before .before .before .before .before .before .d .given .1) (c .before .before .before .before .before .before .before .find .ensures) (ltb-false _ _ (sym (c .before .mark .ensures .below) ∙ not-true _ (c .if4 .taken)))
 
 add-next : tie.Need-add-next Inv-loop μ-loop
 add-next c = search needs
@@ -113,7 +120,7 @@ loop-again c =
     go-on (c .before .before .before .before .before .before .before .before .before .before .before .before .before .before .before .loop .inv) (c .before .before .before .before .before .before .before .before .before .before .before .before .before .before .loop-test .taken) (sym (c .before .before .before .before .before .before .before .before .before .before .before .before .decode .ensures) ∙ c .before .before .before .before .before .before .before .before .before .before .d .given .1) (c .before .before .before .before .before .before .before .find .ensures) (c .before .before .before .before .before .before .if2 .left) (c .before .before .before .before .if3 .left) (ltb-true _ _ (sym (c .before .mark .ensures .below) ∙ not-false _ (c .if4 .left))) (c .before .mark .ensures .marked)
 
 returns-6 : tie.Need-returns-6 Inv-loop μ-loop
-returns-6 c = sym (walk-end (c .before .loop .inv) (c .loop-test .left))
+returns-6 c = walk-end (c .before .before .before .before .before .pre .0) (c .before .loop .inv) (c .loop-test .left)
 
 pub same-spec : {M : Type 1} → statement M
 same-spec =
@@ -128,6 +135,8 @@ same-spec =
     decode-requires
     enum-known-d
     enum-told
+    refusal-of-requires
+    cast-t23
     returns-2
     cast-t
     mul-find
