@@ -17,7 +17,7 @@ use Rattle.exchange.proofs.Frames.{apart, sound-all-decode, words-apart, apart-
 use Rattle.exchange.proofs.Pull.{pull-exchanges, exchanges-pull}
 use Rattle.exchange.specs.Exchange.{Exchanges, independentIn, independentWords}
 use Rattle.equal.specs.declared.EqualReply.the-variants.{Equal, Different}
-use Rattle.equal.specs.Equal.{sound, equalWords, yesOrNo, equalReply, EqualIsExchanges, EqualIsYesOrNo}
+use Rattle.equal.specs.Equal.{sound, equalWords, yesOrNo, equalReply, EqualIsExchanges, EqualIsYesOrNo, LengthsDiffer}
 
 never-itself : (w : ℕ) → independentWords w w ≡ true → ⊥
 never-itself w = go (decodeWord w)
@@ -43,15 +43,19 @@ no l r n = go (equalWords l r) refl
     go true e = absurd (n (words-apart (equal-exchanges l r e)))
     go false e = refl
 
+-- the answer to sound recordings
+answered : (l r : List ℕ) → checkReply l ≡ sound → checkReply r ≡ sound → equalReply l r ≡ yesOrNo (equalWords l r)
+answered l r p q = rw (p, q)
+
 -- "Equality is yes or no"
 pub equal-is-yes-or-no : EqualIsYesOrNo
-equal-is-yes-or-no l r p q = rw (p, q)
+equal-is-yes-or-no = answered
 
 -- "yes exactly then"
 pub equal-is-exchanges : EqualIsExchanges
 equal-is-exchanges l r p q = (
-  λ e. equal-exchanges l r (is-yes (equalWords l r) (sym (equal-is-yes-or-no l r p q) ∙ e)),
-  λ x. equal-is-yes-or-no l r p q ∙ rw (exchanges-equal l r x),
+  λ e. equal-exchanges l r (is-yes (equalWords l r) (sym (answered l r p q) ∙ e)),
+  λ x. answered l r p q ∙ rw (exchanges-equal l r x),
 )
   where
     is-yes : (b : Bool) → yesOrNo b ≡ Equal → b ≡ true
@@ -63,5 +67,5 @@ pub equal-length : (l r : List ℕ) → checkReply l ≡ sound → checkReply r 
 equal-length l r p q e = exchanges-length independentWords (equal-is-exchanges l r p q .0 e)
 
 -- "recordings of different length are not equal"
-pub lengths-differ : (l r : List ℕ) → checkReply l ≡ sound → checkReply r ≡ sound → (length l ≡ length r → ⊥) → equalReply l r ≡ Different
-lengths-differ l r p q n = equal-is-yes-or-no l r p q ∙ sym (no l r (λ x. n (exchanges-length apart x)))
+pub lengths-differ : LengthsDiffer
+lengths-differ l r p q n = answered l r p q ∙ sym (no l r (λ x. n (exchanges-length apart x)))

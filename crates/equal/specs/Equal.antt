@@ -5,6 +5,7 @@ use mathlib.Core.Logic.{_↔_}
 use mathlib.Core.Bool.{Bool, cond}
 use mathlib.Core.List.{List}
 use lib.Dec.{eqb}
+use lib.ListN.{length}
 use Rattle.soundness.specs.Soundness.{checkReply}
 use Rattle.soundness.specs.declared.CheckReply.{CheckReply}
 use Rattle.soundness.specs.declared.CheckReply.the-variants as check
@@ -47,3 +48,8 @@ abbrev pub EqualIsYesOrNo : Type 0
 EqualIsYesOrNo =
     (l r : List ℕ) → checkReply l ≡ sound → checkReply r ≡ sound
     → equalReply l r ≡ yesOrNo (equalWords l r)
+
+-- "recordings of different length are not equal"
+abbrev pub LengthsDiffer : Type 0
+LengthsDiffer =
+    (l r : List ℕ) → checkReply l ≡ sound → checkReply r ≡ sound → (length l ≡ length r → ⊥) → equalReply l r ≡ Different

@@ -23,6 +23,7 @@ use Rattle.text.specs.Text.{wordAt, linefeeds}
 use Rattle.digits.specs.Digits.{lineOf}
 use Rattle.text.proofs.Laws.{Accepted, ends, goes, accepted-length, accepted-linefeeds, accepted-line}
 use Rattle.guards.specs.Guards.{guardOf, guardVariable, guardLock, lines, refused, guardLine, onGuardLine, guardsFrom, noGuards, guardsRead}
+use Rattle.guards.specs.Listed.{Listed}
 use Rattle.guards.specs.declared.Guard.{Guard}
 use Rattle.guards.specs.declared.Guard.the-variants.{Locked, Unprotected, Inferred}
 use Rattle.guards.specs.declared.GuardLine.{GuardLine}
@@ -346,14 +347,7 @@ below-inferred c h e = go (ltb c 64) refl
 pub never-inferred : (s : List ℕ) (x : ℕ) → guardOf (getD (guardsRead s .table) x 64) ≡ Inferred → ⊥
 never-inferred s x e = below-inferred (getD (guardsRead s .table) x 64) (table-codes s x) e
 
--- A list of n lines that is to be accepted: each is a line in its ranges, and no two name one variable.
-pub record Listed (s : List ℕ) (n : ℕ) : Type 0 where
-  pub size : length s ≡ 9 * n
-  pub line-at : (i : ℕ) → i < n → lineOf s (9 * i) ≡ line.Word (wordAt s i)
-  pub variables : (i : ℕ) → i < n → guardVariable (wordAt s i) ≤ 1023
-  pub locks : (i : ℕ) → i < n → guardLock (wordAt s i) ≤ 63
-  pub distinct : (i j : ℕ) → i < j → j < n → guardVariable (wordAt s j) ≡ guardVariable (wordAt s i) → ⊥
-
+-- A list that is `Listed` is accepted.
 module _ (s : List ℕ) (n : ℕ) (a : Listed s n) where
   line-taken : (i : ℕ) (g : List ℕ) (more : List ℕ → GuardsRead) → i < n → getD g (guardVariable (wordAt s i)) 0 ≡ 64
       → onGuardLine (guardLine (lineOf s (9 * i))) i g more ≡ more (set g (guardVariable (wordAt s i)) (guardLock (wordAt s i)))

@@ -1,2 +1,3 @@
 -- Laws of guard lists that crates above cite.
 pub mod Laws
+pub mod Listed

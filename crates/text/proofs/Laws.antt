@@ -1,6 +1,6 @@
 -- Laws of the definitions of specs/Text: scanning a text line by line, the words written, and what an accepted text is like.
 use Prim.Native.Nat.{ℕ, zero, suc, _+_, _-_, _*_, _≤_, _<_}
-use mathlib.Core.Path.{_≡_, refl, ap, _∙_}
+use mathlib.Core.Path.{_≡_, refl, sym, ap, _∙_}
 use mathlib.Core.Bool.{Bool, true, false}
 use mathlib.Core.List.{List, [], _∷_, _++_}
 use native.Mathlib.Omega.{arith}
@@ -11,7 +11,7 @@ use lib.Dec.{ltb, leb, eqb}
 use borrow.Author.Tests.{le-ltb, ltb-false, le-leb, lt-leb, leb-true, eqb-true, eqb-false}
 use Rattle.frame.proofs.Shared.{never, from-here, front-next}
 use Rattle.frame.specs.declared.Refusal.the-variants as refusal
-use Rattle.text.specs.Text.{wordIn, wordAt, refused, ifLine, scanFrom, scanned, reached, wordsTo, roomReply, readReply, readWords, linefeeds}
+use Rattle.text.specs.Text.{wordIn, wordAt, refused, ifLine, scanFrom, scanned, reached, wordsTo, roomReply, readReply, readWords, linefeeds, LinesAreLinefeeds}
 use Rattle.digits.specs.Digits.{Digits, value, none, digitOf, digitsValue, lineOf}
 use Rattle.text.specs.declared.ReadReply.{ReadReply}
 use Rattle.text.specs.declared.ReadReply.the-variants as reply
@@ -187,6 +187,14 @@ module _ (s : List ℕ) (m n : ℕ) (e : readReply s m ≡ reply.Lines n) where
 
   pub read-lines : (j : ℕ) → j < n → lineOf s (9 * j) ≡ line.Word (wordAt s j)
   read-lines = scan-lines s n read-scanned
+
+-- the line reader's claim
+pub lines-are-linefeeds : LinesAreLinefeeds
+lines-are-linefeeds s ws n e =
+    (read-linefeeds s (length ws) n e, read-length s (length ws) n e, read-limit s (length ws) n e, read-room s (length ws) n e, λ i h. read-lines s (length ws) n e i h ∙ ap line.Word (sym (word i h)))
+  where
+    word : (i : ℕ) → i < n → getD (readWords s ws) i 0 ≡ wordAt s i
+    word i h = rw e (List·getD-append (wordsTo s n) (drop n ws) 0 i (rw (length-wordsTo s n) h) ∙ getD-wordsTo s n i 0 h)
 
 -- a text of n lines is read where there is room
 pub read-fits : (s : List ℕ) (m n : ℕ) → scanned s ≡ reply.Lines n → n ≤ m → readReply s m ≡ reply.Lines n

@@ -1,9 +1,10 @@
 -- What a text says: its lines, the words on them, and what reading a recording's text answers and writes. In this order: the lines of a text,
--- the words written, the LFs of a text. What one line says is in crate digits.
-use Prim.Native.Nat.{ℕ, zero, suc, _+_, _*_}
+-- the words written, the LFs of a text, the claim that ties the number of lines to them. What one line says is in crate digits.
+use Prim.Native.Nat.{ℕ, zero, suc, _+_, _*_, _≤_, _<_}
+use mathlib.Core.Path.{_≡_}
 use mathlib.Core.Bool.{cond}
 use mathlib.Core.List.{List, [], _∷_, _++_}
-use lib.ListN.{length, drop}
+use lib.ListN.{length, getD, drop}
 use lib.Dec.{ltb, leb, eqb}
 use Rattle.frame.specs.declared.Refusal.{Refusal}
 use Rattle.frame.specs.declared.Refusal.the-variants as refusal
@@ -68,7 +69,15 @@ written (reply.Refused r) s ws = ws
 abbrev pub readWords : List ℕ → List ℕ → List ℕ
 readWords s ws = written (readReply s (length ws)) s ws
 
--- The number of LFs of a text, to which the laws tie the number of lines.
+-- The number of LFs of a text.
 unfoldable pub linefeeds : List ℕ → ℕ
 linefeeds [] = 0
 linefeeds (b ∷ bs) = cond (eqb b 10) (linefeeds bs + 1) (linefeeds bs)
+
+-- The line reader's claim, "which ties that number to the LFs in an accepted text", over the definitions that its contract cites: it is the
+-- number of LFs, each line has nine bytes, all words fit, and the i-th word written is that of line i.
+abbrev pub LinesAreLinefeeds : Type 0
+LinesAreLinefeeds =
+    (s ws : List ℕ) (n : ℕ) → readReply s (length ws) ≡ reply.Lines n
+    → (linefeeds s ≡ n) × (9 * n ≡ length s) × (n ≤ 4096) × (n ≤ length ws)
+    × ((i : ℕ) → i < n → lineOf s (9 * i) ≡ line.Word (getD (readWords s ws) i 0))

@@ -1,0 +1,45 @@
+-- Which guard lists are accepted, and that line order has no meaning, as claims over what the contract of `read_guards` cites.
+use Prim.Native.Nat.{ℕ, suc, _*_, _≤_, _<_}
+use mathlib.Core.Path.{_≡_}
+use mathlib.Core.Logic.{_↔_}
+use mathlib.Core.List.{List}
+use lib.ListN.{length, take, drop}
+use Rattle.digits.specs.Digits.{lineOf}
+use Rattle.digits.specs.declared.Line.the-variants as line
+use Rattle.text.specs.Text.{wordAt}
+use Rattle.guards.specs.declared.GuardsReply.the-variants as reply
+use Rattle.guards.specs.Guards.{guardVariable, guardLock, guardsRead}
+
+-- n lines of nine bytes, each in its ranges, and "each variable at most once".
+pub record Listed (s : List ℕ) (n : ℕ) : Type 0 where
+  pub size : length s ≡ 9 * n
+  pub line-at : (i : ℕ) → i < n → lineOf s (9 * i) ≡ line.Word (wordAt s i)
+  pub variables : (i : ℕ) → i < n → guardVariable (wordAt s i) ≤ 1023
+  pub locks : (i : ℕ) → i < n → guardLock (wordAt s i) ≤ 63
+  pub distinct : (i j : ℕ) → i < j → j < n → guardVariable (wordAt s j) ≡ guardVariable (wordAt s i) → ⊥
+
+-- A list is accepted, with n lines, exactly if it is so.
+abbrev pub AcceptedIfListed : Type 0
+AcceptedIfListed = (s : List ℕ) (n : ℕ) → guardsRead s .reply ≡ reply.Lines n ↔ Listed s n
+
+-- The nine bytes of line i.
+abbrev pub lineBytes : List ℕ → ℕ → List ℕ
+lineBytes s i = take 9 (drop (9 * i) s)
+
+-- t has the lines of s, n of nine bytes each, in another order: line i of s is line `to i` of t, and line j of t is line `from j` of s.
+pub record Rearranged (s t : List ℕ) (n : ℕ) : Type 0 where
+  pub to : ℕ → ℕ
+  pub from : ℕ → ℕ
+  pub size-s : length s ≡ 9 * n
+  pub size-t : length t ≡ 9 * n
+  pub to-within : (i : ℕ) → i < n → to i < n
+  pub from-within : (j : ℕ) → j < n → from j < n
+  pub to-from : (j : ℕ) → j < n → to (from j) ≡ j
+  pub from-to : (i : ℕ) → i < n → from (to i) ≡ i
+  pub same : (i : ℕ) → i < n → lineBytes t (to i) ≡ lineBytes s i
+
+-- "Line order in it has no meaning": a rearranged accepted list is accepted, and gives the same table of guards.
+abbrev pub LineOrderHasNoMeaning : Type 0
+LineOrderHasNoMeaning =
+    (s t : List ℕ) (n : ℕ) → Rearranged s t n → guardsRead s .reply ≡ reply.Lines n
+    → (guardsRead t .reply ≡ reply.Lines n) × (guardsRead t .table ≡ guardsRead s .table)
