@@ -1,10 +1,11 @@
 -- Laws of the judgement: it keeps the length of the table of candidate sets, and a recording that gets a verdict is sound.
 use Prim.Native.Nat.{ℕ, _+_, _≤_}
-use mathlib.Core.Path.{_≡_, refl, _∙_}
+use mathlib.Core.Path.{_≡_, refl, sym, ap, _∙_}
 use mathlib.Core.List.{List, [], _∷_}
 use lib.Dec.{eqb}
 use lib.Bits.{bitAnd}
 use lib.ListN.{length, getD, length-set}
+use borrow.Author.Tests.{le-ltb}
 use Rattle.frame.proofs.Shared.{never, either}
 use Rattle.frame.specs.Frame.{decodeWord}
 use Rattle.frame.specs.declared.Thread.{Thread}
@@ -23,7 +24,7 @@ use Rattle.soundness.specs.declared.CheckReply.the-variants as check
 use Rattle.instrumented.specs.Rules.{Phase, outside, before, after, Judging, Judged, phaseAt, contains, withCommit, committed, acquireIn, unprotectedIn, judgeOperation}
 use Rattle.operation.specs.declared.Operation.{Operation}
 use Rattle.operation.specs.declared.Operation.the-variants.{Acquire, Release, Protected, Unprotected, Inferred, Begin, End}
-use Rattle.pass.specs.Pass.{Ended, judgeFrame, onOutcome, onVerdict, judgeFrom, startJudging, onCheck, judgement}
+use Rattle.pass.specs.Pass.{Ended, judgeFrame, onOutcome, onVerdict, judgeFrom, startJudging, onCheck, judgement, setsLeft}
 
 -- what is judged has as many sets as before
 abbrev AsMany : Judging → Judged → Type 0
@@ -96,3 +97,9 @@ judgement-sound guards sets ws v e = go (checkReply ws) refl
 -- and has at most 4,096 frames
 pub judgement-fits : (guards sets ws : List ℕ) (v : Verdict) → judgement guards sets ws .reply ≡ reply.Judged v → length ws ≤ 4096
 judgement-fits guards sets ws v e = sound-fits ws (judgement-sound guards sets ws v e)
+
+-- the pass leaves the sets of a verdict
+pub judged-left : (guards sets ws : List ℕ) (v : Verdict) → judgement guards sets ws .reply ≡ reply.Judged v → setsLeft guards sets ws ≡ judgement guards sets ws .sets
+unfolding setsLeft
+judged-left guards sets ws v e =
+    rw (le-ltb 4096 (length ws) (judgement-fits guards sets ws v e)) (sym (ap (λ (x : Ended). x .sets) (judgement-pass guards sets ws (judgement-sound guards sets ws v e))))

@@ -31,8 +31,8 @@ use Rattle.operation.specs.Operation.{operationOf}
 use Rattle.instrumented.specs.Held.{heldSet, Holdable, held, holding}
 use Rattle.judge.proofs.Held.{mine, mine-other, held-lt, held-none, held-same, held-take, held-free}
 use Rattle.judge.proofs.Laws.{access-fits, access-holds, wrong-keeps}
-use Rattle.pass.specs.Pass.{Ended, ended, judgeFrame, startJudging, judgement, setsOf, afterCheck}
-use Rattle.pass.proofs.Fused.{fusedFrom, shown, judgement-shown, fused-end, fused-bad, fused-fail, fused-wrong, fused-next}
+use Rattle.pass.specs.Pass.{Ended, ended, judgeFrame, startJudging, judgement, setsLeft, afterCheck}
+use Rattle.pass.proofs.Fused.{fusedFrom, judgement-fused, fused-end, fused-bad, fused-fail, fused-wrong, fused-next}
 
 -- the table of held sets is that of the owners
 pub record Follows (held owners : List ℕ) : Type 0 where
@@ -146,12 +146,10 @@ starts words guards sets = record {
 
 -- what the pass answers, from its end
 pub answers : (words guards sets c : List ℕ) (r q : Reply) → length words ≤ 4096 → r ≡ q → fusedFrom guards 0 start (startJudging sets) words ≡ ended q c
-    → (r ≡ judgement guards sets words .reply) × (setsOf r c ≡ setsOf r (judgement guards sets words .sets))
+    → (r ≡ judgement guards sets words .reply) × (c ≡ setsLeft guards sets words)
 answers words guards sets c r q h e f =
-    let s : shown (judgement guards sets words) ≡ shown (ended q c) = judgement-shown guards sets words h ∙ ap shown f in
-    let p : judgement guards sets words .reply ≡ q = ap (λ (x : Ended). x .reply) s in
-    let d : setsOf (judgement guards sets words .reply) (judgement guards sets words .sets) ≡ setsOf q c = ap (λ (x : Ended). x .sets) s in
-    (e ∙ sym p, rw e (sym (rw p at d)))
+    let s = judgement-fused guards sets words h ∙ f in
+    (e ∙ sym (ap (λ (x : Ended). x .reply) s), sym (ap (λ (x : Ended). x .sets) s))
 
 module _ {words guards sets₀ sets owners depths hs begins commits : List ℕ} {i : ℕ} (inv : Inv words guards sets₀ sets owners depths hs begins commits i) where
   pub turn-end : length words ≤ i → fusedFrom guards 0 start (startJudging sets₀) words ≡ ended reducible sets

@@ -1,8 +1,10 @@
 -- The judging pass over a recording, from any state and place, and the judgement of a whole recording.
 -- `guards` has the code of each variable's guard (crate guards).
 use Prim.Native.Nat.{ℕ, _+_}
+use mathlib.Core.Bool.{cond}
 use mathlib.Core.List.{List, [], _∷_}
-use lib.ListN.{getD, replicate}
+use lib.Dec.{ltb}
+use lib.ListN.{length, getD, replicate}
 use Rattle.frame.specs.Frame.{decodeWord}
 use Rattle.frame.specs.declared.Frame.{Frame}
 use Rattle.frame.specs.declared.Decoded.{Decoded}
@@ -73,10 +75,10 @@ onCheck (check.Refused r) c rest = ended (reply.Refused r) c
 unfoldable pub judgement : List ℕ → List ℕ → List ℕ → Ended
 judgement guards sets ws = onCheck (checkReply ws) sets (judgeFrom guards 0 start (startJudging sets) ws)
 
--- The sets of a verdict; none of a refusal.
-abbrev pub setsOf : Reply → List ℕ → List ℕ
-setsOf (reply.Refused r) c = []
-setsOf (reply.Judged v) c = c
+-- What the pass leaves in the table that it works on, whatever the reply: the sets before the first frame that is refused or goes wrong, or
+-- after the last frame. A recording that is too long is not walked.
+unfoldable pub setsLeft : List ℕ → List ℕ → List ℕ → List ℕ
+setsLeft guards sets ws = cond (ltb 4096 (length ws)) sets (judgeFrom guards 0 start (startJudging sets) ws .sets)
 
 -- A verdict on frames of which the rest is checked for soundness: a refusal there wins.
 abbrev pub afterCheck : CheckReply → Verdict → Reply

@@ -10,7 +10,7 @@ use soundness::Outcome;
 ghost use mathlib.Core.Path.{_≡_};
 ghost use Prim.Native.Nat.{_≤_};
 ghost use lib.ListN.{length};
-ghost use Rattle.pass.specs.Pass.{judgement, setsOf, afterCheck};
+ghost use Rattle.pass.specs.Pass.{judgement, setsLeft, afterCheck};
 
 fn after_check(q: CheckReply, v: Verdict) -> Reply
     ensures { λ r. ⌜ r ≡ afterCheck q v ⌝ }
@@ -24,7 +24,7 @@ fn after_check(q: CheckReply, v: Verdict) -> Reply
 fn run(words: &[u32], guards: &[u8; 1024], sets: &mut [u64; 1024]) -> Reply
     requires { ⌜ length (now words) ≤ 4096 ⌝ }
     ensures reply { λ r. ⌜ r ≡ judgement (now (guards .entry)) (now (sets .entry)) (now (words .entry)) .reply ⌝ }
-    ensures contents { λ r. ⌜ setsOf r (now (sets .exit)) ≡ setsOf r (judgement (now (guards .entry)) (now (sets .entry)) (now (words .entry)) .sets) ⌝ }
+    ensures contents { λ r. ⌜ now (sets .exit) ≡ setsLeft (now (guards .entry)) (now (sets .entry)) (now (words .entry)) ⌝ }
 {
     let mut owners = [0u8; 64];
     let mut depths = [0u8; 32];
@@ -71,9 +71,10 @@ fn run(words: &[u32], guards: &[u8; 1024], sets: &mut [u64; 1024]) -> Reply
     Reply::Judged(Verdict::Reducible)
 }
 
+// The reply, and the candidate sets as far as the pass came.
 pub fn judge_recording(words: &[u32], guards: &[u8; 1024], sets: &mut [u64; 1024]) -> Reply
     ensures reply { λ r. ⌜ r ≡ judgement (now (guards .entry)) (now (sets .entry)) (now (words .entry)) .reply ⌝ }
-    ensures contents { λ r. ⌜ setsOf r (now (sets .exit)) ≡ setsOf r (judgement (now (guards .entry)) (now (sets .entry)) (now (words .entry)) .sets) ⌝ }
+    ensures contents { λ r. ⌜ now (sets .exit) ≡ setsLeft (now (guards .entry)) (now (sets .entry)) (now (words .entry)) ⌝ }
 {
     if 4096 < words.len() {
         return Reply::Refused(Refused {

@@ -1,13 +1,13 @@
 use mathlib.Core.Path.{refl}
 use borrow.Author.Tests.{lt-ltb}
-use Rattle.pass.specs.Pass.{judgement}
+use Rattle.pass.specs.Pass.{judgement, setsLeft}
 use borrow.Author.Needs.{needs}
 use Rattle.pass.proofs.judge_recording.Statement.{statement}
 use Rattle.pass.proofs.judge_recording.Tie as tie
 
 returns : tie.Need-returns
-unfolding judgement
-returns c = (simp (lt-ltb _ _ (c .if1 .taken)), refl)
+unfolding judgement setsLeft
+returns c = (simp (lt-ltb _ _ (c .if1 .taken)), simp (lt-ltb _ _ (c .if1 .taken)))
 
 run-requires : tie.Need-run-requires
 run-requires c κs = search needs
