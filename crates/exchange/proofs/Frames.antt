@@ -6,11 +6,9 @@ use mathlib.Core.Bool.{Bool, true, false≢true}
 use mathlib.Core.List.{List, [], _∷_, map}
 use native.Mathlib.Omega.{arith}
 use lib.ListN.{length, getD}
-use Rattle.frame.proofs.Shared.{never}
 use Rattle.frame.proofs.Laws.{decoded-in-range, encode-decode, decode-encode}
 use Rattle.frame.specs.Frame.{decodeWord, encodeFrame, InRange}
 use Rattle.frame.specs.declared.Frame.{Frame}
-use Rattle.frame.specs.declared.Refusal.{Refusal}
 use Rattle.frame.specs.declared.Decoded.{Decoded}
 use Rattle.frame.specs.declared.Decoded.the-variants as decoded
 use Rattle.soundness.proofs.Laws.{check-short, sound-fits, sound-first}
@@ -53,10 +51,6 @@ decodes-at (w ∷ ws) d (suc i) h = decodes-at ws (d .1) i (omega arith)
 
 pub sound-decodes : (ws : List ℕ) → checkReply ws ≡ check.Sound → (i : ℕ) → i < length ws → Decodes (getD ws i 0)
 sound-decodes ws e = decodes-at ws (sound-all-decode ws e)
-
--- no word of a sound recording fails to decode
-pub sound-not-bad : {A : Type 0} {b : Refusal} (ws : List ℕ) → checkReply ws ≡ check.Sound → (i : ℕ) → i < length ws → decodeWord (getD ws i 0) ≡ decoded.Bad b → A
-sound-not-bad {A} {b} ws e i h d = let z : decoded.Bad b ≡ decoded.Frame (frameOf (getD ws i 0)) = sym d ∙ sound-decodes ws e i h in never (cc)
 
 -- Two words whose frames are independent.
 abbrev pub apart : ℕ → ℕ → Bool

@@ -2,3 +2,4 @@
 pub mod Fused
 pub mod Turn
 pub mod Judgement
+pub mod Onward

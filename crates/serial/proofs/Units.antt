@@ -9,9 +9,12 @@ use lib.Dec.{eqb}
 use lib.ListN.{length, getD, drop, set, drop-of-length-le}
 use lib.Seq.{drop-cons}
 use mathlib.Core.Bool.{cond}
+use Rattle.frame.proofs.Shared.{never}
 use Rattle.frame.specs.Frame.{decodeWord}
+use Rattle.frame.specs.declared.Refused.{Refused}
 use Rattle.frame.specs.declared.Thread.{Thread}
 use Rattle.serial.specs.Walk.{unitFrom, unitOf, ownFrame}
+use Rattle.serial.specs.declared.UnitReply.the-variants as reply
 use Rattle.serial.specs.declared.Own.{Own}
 use Rattle.serial.specs.declared.Own.the-variants.{Mine, Other}
 use Rattle.frame.specs.declared.Decoded.{Decoded}
@@ -55,3 +58,10 @@ module _ {ws : List ℕ} {b : ℕ} {t : Thread} {out₀ out : List ℕ} {n d i :
 
         pub copies-last : d′ ≡ 0 → Written out₀ (set out n (getD ws i 0)) (n + 1) (unitOf ws b t) []
         copies-last z = written-one (subst (λ (l : List ℕ). Written out₀ out n (unitOf ws b t) l) (own-turn ∙ rw (eq-eqb d′ 0 z)) (inv .written)) has-room
+
+-- the place behind a unit; where one is answered, there is no refusal
+pub same-behind : {m n : ℕ} → reply.Behind m ≡ reply.Behind n → m ≡ n
+same-behind e = cc
+
+pub never-refused : {A : Type 0} {x : Refused} {n : ℕ} → reply.Refused x ≡ reply.Behind n → A
+never-refused e = never (cc)

@@ -20,7 +20,8 @@ use Rattle.reply.specs.declared.Mark.{Mark}
 use Rattle.reply.specs.declared.Mark.the-variants.{At, Absent}
 use Rattle.reply.specs.declared.Verdict.{Verdict}
 use Rattle.reply.specs.declared.Verdict.the-variants as verdict
-use Rattle.pass.specs.Pass.{judgeFrame}
+use Rattle.reply.specs.declared.Reply.{Reply}
+use Rattle.pass.specs.Pass.{judgeFrame, judgeFrom}
 use Rattle.serial.specs.Order.{Point, startPoint, next, phaseOfThread, settled}
 use Rattle.serial.specs.declared.Own.{Own}
 use Rattle.serial.specs.declared.Own.the-variants as own
@@ -79,6 +80,10 @@ walkFrom guards all i p (w ∷ ws) =
     onJudged (stepFrame f (p .state) .outcome) (judgeFrame guards i f (p .state) (p .judging) .verdict)
     (unitIn (unitStart (phaseOfThread (f .thread) p) (settled (phaseOfThread (f .thread) (next guards i f p))) i) all (f .thread)
     ++ walkFrom guards all (i + 1) (next guards i f p) ws)
+
+-- What a walk answers: the reply of the judging pass.
+abbrev pub walkReply : List ℕ → List ℕ → Reply
+walkReply guards ws = judgeFrom guards 0 (startPoint .state) (startPoint .judging) ws .reply
 
 abbrev pub walkWords : List ℕ → List ℕ → List ℕ
 walkWords guards ws = walkFrom guards ws 0 startPoint ws

@@ -1,6 +1,8 @@
 // The units of a recording, each with its frames, and the begins of blocks that are still open.
 use frame::Action;
 use frame::Decoded;
+use frame::Frame;
+use frame::Refused;
 use frame::Thread;
 use reply::Mark;
 ghost use mathlib.Core.Path.{_≡_};
@@ -9,6 +11,8 @@ ghost use mathlib.Core.List.{_++_};
 ghost use Prim.Native.Nat.{_+_, _≤_};
 ghost use lib.ListN.{length, take, drop};
 ghost use Rattle.instrumented.specs.Rules.{phaseOf};
+ghost use Rattle.soundness.specs.Soundness.{checkReply};
+ghost use Rattle.soundness.specs.declared.CheckReply.the-variants as check;
 ghost use Rattle.serial.specs.Order.{settled};
 ghost use Rattle.serial.specs.Walk.{ownFrame, unitOf, unitIn, unitStart, earlier, firstOpenFrom};
 
@@ -24,12 +28,15 @@ pub struct Marks {
     pub begins: [u32; 32],
 }
 
-fn own_frame(d: Decoded, t: Thread, depth: u8) -> Own
-    ensures { λ r. ⌜ r ≡ ownFrame d t depth ⌝ }
+// What copying a unit answers: the place behind it, or the refusal of a word that is no frame.
+pub enum UnitReply {
+    Behind(usize),
+    Refused(Refused),
+}
+
+fn own_frame(f: Frame, t: Thread, depth: u8) -> Own
+    ensures { λ r. ⌜ r ≡ ownFrame (Decoded.Frame f) t depth ⌝ }
 {
-    let Decoded::Frame(f) = d else {
-        return Own::Other;
-    };
     let thread = f.thread;
     if thread.0 != t.0 {
         return Own::Other;
@@ -58,42 +65,52 @@ fn own_frame(d: Decoded, t: Thread, depth: u8) -> Own
 }
 
 // The frames of the unit of thread t that starts at a place, copied to the front of out.
-fn write_unit(words: &[u32], begin: usize, t: Thread, out: &mut [u32]) -> usize
-    requires { ⌜ length (unitOf (now words) begin t) ≤ length (now out) ⌝ }
-    ensures count { λ r. ⌜ r ≡ length (unitOf (now (words .entry)) begin t) ⌝ }
-    ensures contents { λ r. ⌜ now (out .exit) ≡ unitOf (now (words .entry)) begin t ++ drop r (now (out .entry)) ⌝ }
+fn write_unit(words: &[u32], begin: usize, t: Thread, out: &mut [u32]) -> UnitReply
+    requires { ⌜ checkReply (now words) ≡ check.Sound ⌝ ∗ ⌜ length (unitOf (now words) begin t) ≤ length (now out) ⌝ }
+    ensures reply { λ r. ⌜ r ≡ UnitReply.Behind (length (unitOf (now (words .entry)) begin t)) ⌝ }
+    ensures contents { λ r. ⌜ now (out .exit) ≡ unitOf (now (words .entry)) begin t ++ drop (length (unitOf (now (words .entry)) begin t)) (now (out .entry)) ⌝ }
 {
     let mut n: usize = 0;
     let mut depth: u8 = 0;
     let mut i = begin;
     while i < words.len() {
         let word = words[i];
+        let w = frame::decode(word);
+        let Decoded::Frame(f) = w else {
+            return UnitReply::Refused(Refused {
+                reason: frame::refusal_of(w),
+                place: i as u32,
+            });
+        };
         i += 1;
-        let own = own_frame(frame::decode(word), t, depth);
+        let own = own_frame(f, t, depth);
         if let Own::Mine(d) = own {
             out[n] = word;
             n += 1;
             depth = d;
             if d == 0 {
-                return n;
+                return UnitReply::Behind(n);
             }
         }
     }
-    n
+    UnitReply::Behind(n)
 }
 
-// The unit of thread t that starts at a mark, copied to out from a place on; the place behind it. Where the mark is absent there is none.
-pub fn write_at(words: &[u32], start: Mark, t: Thread, out: &mut [u32], at: usize) -> usize
-    requires { ⌜ at + length (unitIn start (now words) t) ≤ length (now out) ⌝ }
-    ensures place { λ r. ⌜ r ≡ at + length (unitIn start (now (words .entry)) t) ⌝ }
-    ensures contents { λ r. ⌜ now (out .exit) ≡ take at (now (out .entry)) ++ (unitIn start (now (words .entry)) t ++ drop r (now (out .entry))) ⌝ }
+// The unit of thread t that starts at a mark, copied to out from a place on. Where the mark is absent there is none.
+pub fn write_at(words: &[u32], start: Mark, t: Thread, out: &mut [u32], at: usize) -> UnitReply
+    requires { ⌜ checkReply (now words) ≡ check.Sound ⌝ ∗ ⌜ at + length (unitIn start (now words) t) ≤ length (now out) ⌝ }
+    ensures reply { λ r. ⌜ r ≡ UnitReply.Behind (at + length (unitIn start (now (words .entry)) t)) ⌝ }
+    ensures contents { λ r. ⌜ now (out .exit) ≡ take at (now (out .entry)) ++ (unitIn start (now (words .entry)) t ++ drop (at + length (unitIn start (now (words .entry)) t)) (now (out .entry))) ⌝ }
 {
     let Mark::At(b) = start else {
-        return at;
+        return UnitReply::Behind(at);
     };
     let from = b as usize;
-    let n = write_unit(words, from, t, &mut out[at..]);
-    at + n
+    let q = write_unit(words, from, t, &mut out[at..]);
+    let UnitReply::Behind(n) = q else {
+        return q;
+    };
+    UnitReply::Behind(at + n)
 }
 
 // Whether a thread is outside or after commit.

@@ -1,8 +1,9 @@
 -- Laws of soundness: how a pass goes on from place i, by what the frame there does, and what a sound recording is.
-use Prim.Native.Nat.{ℕ, _+_, _≤_, _<_}
+use Prim.Native.Nat.{ℕ, zero, suc, _+_, _≤_, _<_}
 use mathlib.Core.Path.{_≡_, refl, sym, ap, _∙_}
 use mathlib.Core.Bool.{Bool, true, false, cond}
-use mathlib.Core.List.{List, _∷_}
+use mathlib.Core.List.{List, [], _∷_}
+use native.Mathlib.Omega.{arith}
 use native.Mathlib.Numerals.{add-one}
 use lib.ListN.{length, getD, drop, drop-of-length-le}
 use lib.Seq.{drop-cons}
@@ -76,6 +77,19 @@ sound-first i s w ws c = decode-case (decodeWord w) refl
     decode-case : (x : Decoded) → decodeWord w ≡ x → First i s w ws
     decode-case (decoded.Frame f) d = step-case f d (stepFrame f s .outcome) (stepFrame f s .state) refl
     decode-case (decoded.Bad b) d = let y : refused b i ≡ reply.Sound = rw d at c in never (cc)
+
+-- no word of a sound recording fails to decode
+no-bad : {A : Type 0} {b : Refusal} (i : ℕ) (s : State) (ws : List ℕ) → checkFrom i s ws .reply ≡ reply.Sound
+    → (k : ℕ) → k < length ws → decodeWord (getD ws k 0) ≡ decoded.Bad b → A
+no-bad i s [] c k h d = absurd (omega arith)
+no-bad {b = b} i s (w ∷ ws) c zero h d =
+    let q = sound-first i s w ws c in
+    let y : decoded.Bad b ≡ decoded.Frame (q .frame) = sym d ∙ q .is in
+    never (cc)
+no-bad i s (w ∷ ws) c (suc k) h d = let q = sound-first i s w ws c in no-bad (i + 1) (q .next) ws (q .rest) k (omega arith) d
+
+pub sound-not-bad : {A : Type 0} {b : Refusal} (ws : List ℕ) → checkReply ws ≡ reply.Sound → (k : ℕ) → k < length ws → decodeWord (getD ws k 0) ≡ decoded.Bad b → A
+sound-not-bad ws c = no-bad 0 start ws (sym (check-short ws (sound-fits ws c)) ∙ c)
 
 -- a refused step is no step on
 no-step : {A : Type 0} (r : Refusal) (s n : State) → stepped (outcome.Bad r) s ≡ stepped outcome.Next n → A

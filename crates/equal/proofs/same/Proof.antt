@@ -6,9 +6,9 @@ use borrow.Author.Needs.{needs}
 use borrow.Author.Tests.{ltb-true, ltb-false, not-true, not-false}
 use lib.ListN.{length}
 use Rattle.frame.proofs.Laws.{decoded-in-range}
-use Rattle.soundness.proofs.Laws.{sound-fits}
+use Rattle.soundness.proofs.Laws.{sound-fits, sound-not-bad}
 use Rattle.exchange.proofs.Exchange.{exchanges-length}
-use Rattle.exchange.proofs.Frames.{apart, sound-not-bad}
+use Rattle.exchange.proofs.Frames.{apart}
 use Rattle.matching.specs.Places.{lastsOf}
 use Rattle.equal.proofs.Exchanges.{no}
 use Rattle.equal.proofs.Walk.{Walking, walk-start, walk-end, missing, words-differ, too-early, go-on}

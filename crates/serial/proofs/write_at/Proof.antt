@@ -1,11 +1,14 @@
 -- The unit stands at the front of the part that was lent.
 use Prim.Native.Nat.{_+_}
-use mathlib.Core.Path.{sym, ap}
+use mathlib.Core.Path.{_≡_, sym, ap, _∙_}
 use native.Mathlib.Omega.{arith}
 use borrow.Author.Needs.{needs}
-use lib.ListN.{take-append-drop}
+use mathlib.Core.List.{_++_}
+use lib.ListN.{length, take, drop, take-append-drop}
+use Rattle.serial.specs.declared.UnitReply.the-variants.{Behind}
 use Rattle.serial.specs.Walk.{unitOf}
 use Rattle.serial.proofs.Written.{lent-fits, lent-part}
+use Rattle.serial.proofs.Units.{same-behind}
 use Rattle.serial.proofs.write_at.Statement.{statement}
 use Rattle.serial.proofs.write_at.Tie as tie
 
@@ -17,8 +20,9 @@ enum-told c = search needs
 
 returns : tie.Need-returns
 returns c =
-    let out = c .before .before .before .before .args .out .now in
-    rw (c .enum-told .given .1) (omega arith, sym (take-append-drop (c .before .before .before .before .args .at) out))
+    let a = c .before .before .before .before .args in
+    let z : a .at ≡ a .at + 0 = omega arith in
+    rw (c .enum-told .given .1) (ap Behind z, sym (take-append-drop (a .at) (a .out .now)) ∙ ap (λ m. take (a .at) (a .out .now) ++ drop m (a .out .now)) z)
 
 cast-from : tie.Need-cast-from
 cast-from c = search needs
@@ -37,24 +41,33 @@ part-write-unit-end c = search needs
 
 write-unit-requires : tie.Need-write-unit-requires
 write-unit-requires c κs =
-    let a = c .before .before .before .before .before .before .args in
-    let p = rw (c .before .before .start .given .1) at (c .before .before .before .before .before .before .pre) in
-    lent-fits (unitOf (a .words .now) (c .before .before .start .given .0 .0) (a .t)) (a .out .now) (a .at) p
+    (c .before .before .before .before .before .before .pre .0, lent-fits (unitOf (c .before .before .before .before .before .before .args .words .now) (c .before .before .start .given .0 .0) (c .before .before .before .before .before .before .args .t)) (c .before .before .before .before .before .before .args .out .now) (c .before .before .before .before .before .before .args .at) (rw (c .before .before .start .given .1) at (c .before .before .before .before .before .before .pre .1)))
 
-add-result : tie.Need-add-result
-add-result c =
-    let p = rw (c .before .before .before .before .before .start .given .1) at (c .before .before .before .before .before .before .before .before .before .pre) in
-    omega (arith, p, c .before .before .write-unit .ensures .0, c .before .before .before .before .before .before .before .before .before .good)
+enum-known-q : tie.Need-enum-known-q
+enum-known-q c = search needs
+
+enum-told-2 : tie.Need-enum-told-2
+enum-told-2 c = search needs
 
 same-length : tie.Need-same-length
 same-length c = search needs
 
 returns-2 : tie.Need-returns-2
-returns-2 c =
-    let a = c .before .before .before .before .before .before .before .before .before .args in
-    let w = c .before .before .write-unit .ensures in
-    let u = unitOf (a .words .now) (c .before .before .before .before .before .start .given .0 .0) (a .t) in
-    rw (c .before .before .before .before .before .start .given .1) (ap (λ m. a .at + m) (w .0), lent-part u (a .out .now) (a .at) _ (w .1))
+returns-2 c = search needs
+
+add-t10 : tie.Need-add-t10
+add-t10 c =
+    let p = rw (c .before .before .before .before .before .before .before .before .start .given .1) at (c .before .before .before .before .before .before .before .before .before .before .before .before .pre .1) in
+    omega (arith, p, same-behind (sym (c .before .q .given .1) ∙ c .before .before .before .before .before .write-unit .ensures .0), c .before .before .before .before .before .before .before .before .before .before .before .before .good)
+
+same-length-2 : tie.Need-same-length-2
+same-length-2 c = search needs
+
+returns-3 : tie.Need-returns-3
+returns-3 c =
+    let n = same-behind (sym (c .before .q .given .1) ∙ c .before .before .before .before .before .write-unit .ensures .0) in
+    let u = unitOf (c .before .before .before .before .before .before .before .before .before .before .before .before .args .words .now) (c .before .before .before .before .before .before .before .before .start .given .0 .0) (c .before .before .before .before .before .before .before .before .before .before .before .before .args .t) in
+    rw (c .before .before .before .before .before .before .before .before .start .given .1) (ap (λ m. Behind (c .before .before .before .before .before .before .before .before .before .before .before .before .args .at + m)) n, lent-part u (c .before .before .before .before .before .before .before .before .before .before .before .before .args .out .now) (c .before .before .before .before .before .before .before .before .before .before .before .before .args .at) (length u) (c .before .before .before .before .before .write-unit .ensures .1))
 
 pub write-at-spec : {M : Type 1} → statement M
 write-at-spec =
@@ -69,6 +82,10 @@ write-at-spec =
     part-write-unit-start
     part-write-unit-end
     write-unit-requires
-    add-result
+    enum-known-q
+    enum-told-2
     same-length
-    returns-2)
+    returns-2
+    add-t10
+    same-length-2
+    returns-3)

@@ -5,9 +5,11 @@ use native.Mathlib.Omega.{arith}
 use borrow.Author.Needs.{needs}
 use lib.ListN.{length}
 use Rattle.frame.proofs.Laws.{decoded-in-range}
+use Rattle.soundness.proofs.Laws.{sound-fits}
 use Rattle.serial.proofs.Written.{written-whole}
+use Rattle.serial.proofs.Units.{never-refused, same-behind}
 use Rattle.pass.proofs.Turn.{frame-held}
-use Rattle.walk.proofs.Walks.{WalkInv, walk-begins, walk-done, walk-bad, walk-fail, walk-wrong, unit-room, walk-writes}
+use Rattle.walk.proofs.Walks.{WalkInv, walk-begins, reply-done, walk-done, reply-bad, walk-bad, reply-fail, walk-fail, reply-wrong, walk-wrong, unit-room, walk-writes}
 use Rattle.walk.proofs.write_order.Statement.{statement}
 use Rattle.walk.proofs.write_order.Tie as tie
 
@@ -37,12 +39,20 @@ enum-known-d c = search needs
 enum-told : tie.Need-enum-told Inv-loop μ-loop
 enum-told c = search needs
 
+refusal-of-requires : tie.Need-refusal-of-requires Inv-loop μ-loop
+refusal-of-requires c κs = search needs
+
+cast-t32 : tie.Need-cast-t32 Inv-loop μ-loop
+cast-t32 c =
+    omega (arith, c .before .before .before .before .before .loop-test .taken, sound-fits (c .before .before .before .before .before .before .before .before .before .args .words .now) (c .before .before .before .before .before .before .before .before .before .pre .0))
+
 same-length : tie.Need-same-length Inv-loop μ-loop
-same-length c = c .before .before .before .before .before .loop .inv .written .long
+same-length c = c .before .before .before .before .before .before .loop .inv .written .long
 
 returns : tie.Need-returns Inv-loop μ-loop
 returns c =
-    written-whole (walk-bad (c .before .before .before .before .before .loop .inv) (c .before .before .before .before .loop-test .taken) (sym (c .before .before .decode .ensures) ∙ c .enum-told .given .1))
+    let e = sym (c .before .before .before .decode .ensures) ∙ c .before .enum-told .given .1 in
+    (rw (c .refusal-of .ensures, c .before .enum-told .given .1) (sym (reply-bad (c .before .before .before .before .before .before .loop .inv) (c .before .before .before .before .before .loop-test .taken) e)), written-whole (walk-bad (c .before .before .before .before .before .before .loop .inv) (c .before .before .before .before .before .loop-test .taken) e))
 
 cast-t : tie.Need-cast-t Inv-loop μ-loop
 cast-t c = search needs
@@ -75,27 +85,36 @@ enum-told-2 c = search needs
 enum-told-3 : tie.Need-enum-told-3 Inv-loop μ-loop
 enum-told-3 c = search needs
 
+outcome-refusal-requires : tie.Need-outcome-refusal-requires Inv-loop μ-loop
+outcome-refusal-requires c κs = search needs
+
+cast-t44 : tie.Need-cast-t44 Inv-loop μ-loop
+cast-t44 c =
+    omega (arith, c .before .before .before .before .before .before .before .before .before .before .before .before .before .loop-test .taken, sound-fits (c .before .before .before .before .before .before .before .before .before .before .before .before .before .before .before .before .before .args .words .now) (c .before .before .before .before .before .before .before .before .before .before .before .before .before .before .before .before .before .pre .0))
+
 same-length-2 : tie.Need-same-length-2 Inv-loop μ-loop
 same-length-2 c =
-    c .before .before .before .before .before .before .before .before .before .before .before .before .before .loop .inv .written .long
+    c .before .before .before .before .before .before .before .before .before .before .before .before .before .before .loop .inv .written .long
 
 returns-2 : tie.Need-returns-2 Inv-loop μ-loop
 returns-2 c =
-    let e = sym (c .before .before .before .before .before .before .before .before .before .before .decode .ensures) ∙ c .before .before .before .before .before .before .before .before .d .given .1 in
-    written-whole (walk-fail (c .before .before .before .before .before .before .before .before .before .before .before .before .before .loop .inv) (c .before .before .before .before .before .before .before .before .before .before .before .before .loop-test .taken) e (rw (c .enum-told3 .given .1) at (c .before .before .step .ensures)))
+    let e = sym (c .before .before .before .before .before .before .before .before .before .before .before .decode .ensures) ∙ c .before .before .before .before .before .before .before .before .before .d .given .1 in
+    let g = rw (c .before .enum-told3 .given .1) at (c .before .before .before .step .ensures) in
+    (rw (c .outcome-refusal .ensures, c .before .enum-told3 .given .1) (sym (reply-fail (c .before .before .before .before .before .before .before .before .before .before .before .before .before .before .loop .inv) (c .before .before .before .before .before .before .before .before .before .before .before .before .before .loop-test .taken) e g)), written-whole (walk-fail (c .before .before .before .before .before .before .before .before .before .before .before .before .before .before .loop .inv) (c .before .before .before .before .before .before .before .before .before .before .before .before .before .loop-test .taken) e g))
 
 operation-of-requires : tie.Need-operation-of-requires Inv-loop μ-loop
 operation-of-requires c κs =
     decoded-in-range _ _ (sym (c .before .before .before .before .before .before .before .before .before .before .decode .ensures) ∙ c .before .before .before .before .before .before .before .before .d .given .1) .object
 
 cast-judge : tie.Need-cast-judge Inv-loop μ-loop
-cast-judge c = search needs
+cast-judge c =
+    omega (arith, c .before .before .before .before .before .before .before .before .before .before .before .before .before .before .before .before .before .loop-test .taken, sound-fits (c .before .before .before .before .before .before .before .before .before .before .before .before .before .before .before .before .before .before .before .before .before .args .words .now) (c .before .before .before .before .before .before .before .before .before .before .before .before .before .before .before .before .before .before .before .before .before .pre .0))
 
 judge-requires : tie.Need-judge-requires Inv-loop μ-loop
 judge-requires c κs =
     let e = sym (c .before .before .before .before .before .before .before .before .before .before .before .before .before .before .before .decode .ensures) ∙ c .before .before .before .before .before .before .before .before .before .before .before .before .before .d .given .1 in
     let g = rw (c .before .before .before .before .before .enum-told2 .given .1) at (c .before .before .before .before .before .before .before .step .ensures) in
-    (decoded-in-range _ _ e .thread, (omega (arith, c .before .before .before .before .before .before .before .before .before .before .before .before .before .before .before .before .before .loop-test .taken, c .before .before .before .before .before .before .before .before .before .before .before .before .before .before .before .before .before .before .before .before .before .pre .0), rw (c .before .before .before .before .operation-of .ensures) (frame-held (c .before .before .before .before .before .before .before .before .before .before .before .before .before .before .before .before .before .before .before .before .before .args .guards .now) (c .before .before .before .before .before .before .before .before .before .before .before .before .before .before .before .before .before .before .loop .depths) (c .before .before .before .before .before .before .before .before .before .before .before .before .before .before .before .before .before .before .loop .inv .follows) (decoded-in-range _ _ e) g .fits)))
+    (decoded-in-range _ _ e .thread, (omega (arith, c .before .before .before .before .before .before .before .before .before .before .before .before .before .before .before .before .before .loop-test .taken, sound-fits (c .before .before .before .before .before .before .before .before .before .before .before .before .before .before .before .before .before .before .before .before .before .args .words .now) (c .before .before .before .before .before .before .before .before .before .before .before .before .before .before .before .before .before .before .before .before .before .pre .0)), rw (c .before .before .before .before .operation-of .ensures) (frame-held (c .before .before .before .before .before .before .before .before .before .before .before .before .before .before .before .before .before .before .before .before .before .args .guards .now) (c .before .before .before .before .before .before .before .before .before .before .before .before .before .before .before .before .before .before .loop .depths) (c .before .before .before .before .before .before .before .before .before .before .before .before .before .before .before .before .before .before .loop .inv .follows) (decoded-in-range _ _ e) g .fits)))
 
 enum-told-4 : tie.Need-enum-told-4 Inv-loop μ-loop
 enum-told-4 c = search needs
@@ -109,13 +128,9 @@ same-length-3 c =
 
 returns-3 : tie.Need-returns-3 Inv-loop μ-loop
 returns-3 c =
-    let inv = c .before .before .before .before .before .before .before .before .before .before .before .before .before .before .before .before .before .before .before .before .before .loop .inv in
-    let h = c .before .before .before .before .before .before .before .before .before .before .before .before .before .before .before .before .before .before .before .before .loop-test .taken in
     let e = sym (c .before .before .before .before .before .before .before .before .before .before .before .before .before .before .before .before .before .before .decode .ensures) ∙ c .before .before .before .before .before .before .before .before .before .before .before .before .before .before .before .before .d .given .1 in
     let g = rw (c .before .before .before .before .before .before .before .before .enum-told2 .given .1) at (c .before .before .before .before .before .before .before .before .before .before .step .ensures) in
-    let o = c .before .before .before .before .before .before .before .operation-of .ensures in
-    let j = c .before .before .judge in
-    written-whole (walk-wrong inv h e g o (j .ensures .0) (c .enum-told5 .given .1))
+    (sym (reply-wrong (c .before .before .before .before .before .before .before .before .before .before .before .before .before .before .before .before .before .before .before .before .before .loop .inv) (c .before .before .before .before .before .before .before .before .before .before .before .before .before .before .before .before .before .before .before .before .loop-test .taken) e g (c .before .before .before .before .before .before .before .operation-of .ensures) (c .before .before .judge .ensures .0) (c .enum-told5 .given .1)), written-whole (walk-wrong (c .before .before .before .before .before .before .before .before .before .before .before .before .before .before .before .before .before .before .before .before .before .loop .inv) (c .before .before .before .before .before .before .before .before .before .before .before .before .before .before .before .before .before .before .before .before .loop-test .taken) e g (c .before .before .before .before .before .before .before .operation-of .ensures) (c .before .before .judge .ensures .0) (c .enum-told5 .given .1)))
 
 array-read-unit-start : tie.Need-array-read-unit-start Inv-loop μ-loop
 array-read-unit-start c =
@@ -129,43 +144,51 @@ array-read-unit-start-2 c =
     decoded-in-range _ _ (sym (c .before .before .before .before .before .before .before .before .before .before .before .before .before .before .before .before .before .before .decode .ensures) ∙ c .before .before .before .before .before .before .before .before .before .before .before .before .before .before .before .before .d .given .1) .thread
 
 cast-unit-start : tie.Need-cast-unit-start Inv-loop μ-loop
-cast-unit-start c = search needs
+cast-unit-start c =
+    omega (arith, c .before .before .before .before .before .before .before .before .before .before .before .before .before .before .before .before .before .before .before .before .loop-test .taken, sound-fits (c .before .before .before .before .before .before .before .before .before .before .before .before .before .before .before .before .before .before .before .before .before .before .before .before .args .words .now) (c .before .before .before .before .before .before .before .before .before .before .before .before .before .before .before .before .before .before .before .before .before .before .before .before .pre .0))
 
 unit-start-requires : tie.Need-unit-start-requires Inv-loop μ-loop
 unit-start-requires c κs = search needs
 
 write-at-requires : tie.Need-write-at-requires Inv-loop μ-loop
 write-at-requires c κs =
-    let inv = c .before .before .before .before .before .before .before .before .before .before .before .before .before .before .before .before .before .before .before .before .before .before .before .loop .inv in
-    let h = c .before .before .before .before .before .before .before .before .before .before .before .before .before .before .before .before .before .before .before .before .before .before .loop-test .taken in
     let e = sym (c .before .before .before .before .before .before .before .before .before .before .before .before .before .before .before .before .before .before .before .before .decode .ensures) ∙ c .before .before .before .before .before .before .before .before .before .before .before .before .before .before .before .before .before .before .d .given .1 in
     let g = rw (c .before .before .before .before .before .before .before .before .before .before .enum-told2 .given .1) at (c .before .before .before .before .before .before .before .before .before .before .before .before .step .ensures) in
-    let o = c .before .before .before .before .before .before .before .before .before .operation-of .ensures in
-    let j = c .before .before .before .before .judge in
-    unit-room inv h e g o (j .ensures .0) (c .before .before .enum-told4 .given .1) (j .ensures .1) (c .before .unit-start .ensures) (c .before .before .before .before .before .before .before .before .before .before .before .before .before .before .before .before .before .before .before .before .before .before .before .before .before .before .pre .1)
+    (c .before .before .before .before .before .before .before .before .before .before .before .before .before .before .before .before .before .before .before .before .before .before .before .before .before .before .pre .0, unit-room (c .before .before .before .before .before .before .before .before .before .before .before .before .before .before .before .before .before .before .before .before .before .before .before .loop .inv) (c .before .before .before .before .before .before .before .before .before .before .before .before .before .before .before .before .before .before .before .before .before .before .loop-test .taken) e g (c .before .before .before .before .before .before .before .before .before .operation-of .ensures) (c .before .before .before .before .judge .ensures .0) (c .before .before .enum-told4 .given .1) (c .before .before .before .before .judge .ensures .1) (c .before .unit-start .ensures) (c .before .before .before .before .before .before .before .before .before .before .before .before .before .before .before .before .before .before .before .before .before .before .before .before .before .before .pre .1))
+
+enum-known-q : tie.Need-enum-known-q Inv-loop μ-loop
+enum-known-q c = search needs
+
+same-length-4 : tie.Need-same-length-4 Inv-loop μ-loop
+same-length-4 c = never-refused (sym (c .before .q .given .1) ∙ c .before .before .before .before .before .write-at .ensures .0)
+
+returns-4 : tie.Need-returns-4 Inv-loop μ-loop
+returns-4 c = never-refused (sym (c .before .q .given .1) ∙ c .before .before .before .before .before .write-at .ensures .0)
+
+enum-known-q-2 : tie.Need-enum-known-q-2 Inv-loop μ-loop
+enum-known-q-2 c = search needs
 
 add-i : tie.Need-add-i Inv-loop μ-loop
 add-i c =
-    omega (arith, c .before .before .before .before .before .before .before .before .before .before .before .before .before .before .before .before .before .before .before .before .before .before .before .before .before .loop-test .taken, c .before .before .before .before .before .before .before .before .before .before .before .before .before .before .before .before .before .before .before .before .before .before .before .before .before .before .before .before .before .pre .0)
+    omega (arith, c .before .before .before .before .before .before .before .before .before .before .before .before .before .before .before .before .before .before .before .before .before .before .before .before .before .before .before .before .loop-test .taken, sound-fits (c .before .before .before .before .before .before .before .before .before .before .before .before .before .before .before .before .before .before .before .before .before .before .before .before .before .before .before .before .before .before .before .before .args .words .now) (c .before .before .before .before .before .before .before .before .before .before .before .before .before .before .before .before .before .before .before .before .before .before .before .before .before .before .before .before .before .before .before .before .pre .0))
 
 loop-less : tie.Need-loop-less Inv-loop μ-loop
-loop-less c = omega (arith, c .before .before .before .before .before .before .before .before .before .before .before .before .before .before .before .before .before .before .before .before .before .before .before .before .before .loop-test .taken)
+loop-less c =
+    omega (arith, c .before .before .before .before .before .before .before .before .before .before .before .before .before .before .before .before .before .before .before .before .before .before .before .before .before .before .before .before .loop-test .taken)
 
 loop-again : tie.Need-loop-again Inv-loop μ-loop
 loop-again c =
-    let inv = c .before .before .before .before .before .before .before .before .before .before .before .before .before .before .before .before .before .before .before .before .before .before .before .before .before .before .loop .inv in
-    let h = c .before .before .before .before .before .before .before .before .before .before .before .before .before .before .before .before .before .before .before .before .before .before .before .before .before .loop-test .taken in
-    let e = sym (c .before .before .before .before .before .before .before .before .before .before .before .before .before .before .before .before .before .before .before .before .before .before .before .decode .ensures) ∙ c .before .before .before .before .before .before .before .before .before .before .before .before .before .before .before .before .before .before .before .before .before .d .given .1 in
-    let g = rw (c .before .before .before .before .before .before .before .before .before .before .before .before .before .enum-told2 .given .1) at (c .before .before .before .before .before .before .before .before .before .before .before .before .before .before .before .step .ensures) in
-    let o = c .before .before .before .before .before .before .before .before .before .before .before .before .operation-of .ensures in
-    let j = c .before .before .before .before .before .before .before .judge in
-    walk-writes inv h e g o (j .ensures .0) (c .before .before .before .before .before .enum-told4 .given .1) (j .ensures .1) (c .before .before .before .before .unit-start .ensures) (c .before .before .before .before .before .before .before .before .before .before .before .before .before .before .before .before .before .before .before .before .before .before .before .before .before .before .before .before .before .pre .1) (c .before .before .write-at .ensures .0) (c .before .before .write-at .ensures .1)
+    let e = sym (c .before .before .before .before .before .before .before .before .before .before .before .before .before .before .before .before .before .before .before .before .before .before .before .before .before .before .decode .ensures) ∙ c .before .before .before .before .before .before .before .before .before .before .before .before .before .before .before .before .before .before .before .before .before .before .before .before .d .given .1 in
+    let g = rw (c .before .before .before .before .before .before .before .before .before .before .before .before .before .before .before .before .enum-told2 .given .1) at (c .before .before .before .before .before .before .before .before .before .before .before .before .before .before .before .before .before .before .step .ensures) in
+    let p = same-behind (sym (c .before .q2 .given .1) ∙ c .before .before .before .before .before .write-at .ensures .0) in
+    walk-writes (c .before .before .before .before .before .before .before .before .before .before .before .before .before .before .before .before .before .before .before .before .before .before .before .before .before .before .before .before .before .loop .inv) (c .before .before .before .before .before .before .before .before .before .before .before .before .before .before .before .before .before .before .before .before .before .before .before .before .before .before .before .before .loop-test .taken) e g (c .before .before .before .before .before .before .before .before .before .before .before .before .before .before .before .operation-of .ensures) (c .before .before .before .before .before .before .before .before .before .before .judge .ensures .0) (c .before .before .before .before .before .before .before .before .enum-told4 .given .1) (c .before .before .before .before .before .before .before .before .before .before .judge .ensures .1) (c .before .before .before .before .before .before .before .unit-start .ensures) (c .before .before .before .before .before .before .before .before .before .before .before .before .before .before .before .before .before .before .before .before .before .before .before .before .before .before .before .before .before .before .before .before .pre .1) p (rw (← p) at (c .before .before .before .before .before .write-at .ensures .1))
 
-same-length-4 : tie.Need-same-length-4 Inv-loop μ-loop
-same-length-4 c = c .before .loop .inv .written .long
+same-length-5 : tie.Need-same-length-5 Inv-loop μ-loop
+same-length-5 c = c .before .loop .inv .written .long
 
-returns-4 : tie.Need-returns-4 Inv-loop μ-loop
-returns-4 c = written-whole (walk-done (c .before .loop .inv) (c .loop-test .left))
+returns-5 : tie.Need-returns-5 Inv-loop μ-loop
+returns-5 c =
+    (sym (reply-done (c .before .loop .inv) (c .loop-test .left)), written-whole (walk-done (c .before .loop .inv) (c .loop-test .left)))
 
 pub write-order-spec : {M : Type 1} → statement M
 write-order-spec =
@@ -179,6 +202,8 @@ write-order-spec =
     decode-requires
     enum-known-d
     enum-told
+    refusal-of-requires
+    cast-t32
     same-length
     returns
     cast-t
@@ -190,6 +215,8 @@ write-order-spec =
     step-requires
     enum-told-2
     enum-told-3
+    outcome-refusal-requires
+    cast-t44
     same-length-2
     returns-2
     operation-of-requires
@@ -205,8 +232,12 @@ write-order-spec =
     cast-unit-start
     unit-start-requires
     write-at-requires
+    enum-known-q
+    same-length-4
+    returns-4
+    enum-known-q-2
     add-i
     loop-less
     loop-again
-    same-length-4
-    returns-4)
+    same-length-5
+    returns-5)
