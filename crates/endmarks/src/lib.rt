@@ -1,16 +1,19 @@
 // The threads at the end of a recording: how many blocks each has open, and the outermost begin.
 use frame::Decoded;
+use frame::Refused;
+use reply::Reply;
 use reply::Verdict;
 use serial::Marks;
 use soundness::Outcome;
 ghost use mathlib.Core.Path.{_≡_};
 ghost use Prim.Native.Nat.{_≤_};
 ghost use lib.ListN.{length};
-ghost use Rattle.serial.specs.Walk.{endPoint};
+ghost use Rattle.serial.specs.Walk.{walkReply, endPoint};
 
-// The threads at the end of a recording.
+// The threads at the end of a recording. A frame that is refused or goes wrong ends the walk.
 pub fn end_marks(words: &[u32], guards: &[u8; 1024]) -> Marks
     requires { ⌜ length (now words) ≤ 4096 ⌝ }
+    ensures reply { λ r. ⌜ r .reply ≡ walkReply (now (guards .entry)) (now (words .entry)) ⌝ }
     ensures depths { λ r. ⌜ r .depths ≡ endPoint (now (guards .entry)) (now (words .entry)) .state .depths ⌝ }
     ensures begins { λ r. ⌜ r .begins ≡ endPoint (now (guards .entry)) (now (words .entry)) .judging .begins ⌝ }
 {
@@ -24,7 +27,12 @@ pub fn end_marks(words: &[u32], guards: &[u8; 1024]) -> Marks
     while i < words.len() {
         let d = frame::decode(words[i]);
         let Decoded::Frame(f) = d else {
+            let bad = Reply::Refused(Refused {
+                reason: frame::refusal_of(d),
+                place: i as u32,
+            });
             return Marks {
+                reply: bad,
                 depths: depths,
                 begins: begins,
             };
@@ -34,7 +42,12 @@ pub fn end_marks(words: &[u32], guards: &[u8; 1024]) -> Marks
         let depth = depths[t];
         let o = soundness::step(&mut owners, &mut depths, f);
         let Outcome::Next = o else {
+            let bad = Reply::Refused(Refused {
+                reason: soundness::outcome_refusal(o),
+                place: i as u32,
+            });
             return Marks {
+                reply: bad,
                 depths: depths,
                 begins: begins,
             };
@@ -53,6 +66,7 @@ pub fn end_marks(words: &[u32], guards: &[u8; 1024]) -> Marks
         );
         let Verdict::Reducible = v else {
             return Marks {
+                reply: Reply::Judged(v),
                 depths: depths,
                 begins: begins,
             };
@@ -60,6 +74,7 @@ pub fn end_marks(words: &[u32], guards: &[u8; 1024]) -> Marks
         i += 1;
     }
     Marks {
+        reply: Reply::Judged(Verdict::Reducible),
         depths: depths,
         begins: begins,
     }

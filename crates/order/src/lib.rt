@@ -43,7 +43,7 @@ fn is_irreducible(r: Reply) -> bool
     }
 }
 
-// The serial order under a table of guards.
+// The serial order under a table of guards: the pass, the walk to the end and the walk that writes, each of which answers what it finds wrong.
 fn order(words: &[u32], guards: &[u8; 1024], out: &mut [u32]) -> OrderReply
     requires { ⌜ length (now guards) ≡ 1024 ⌝ }
     ensures reply { λ r. ⌜ r ≡ orderReply (now (guards .entry)) (now (words .entry)) (length (now (out .entry))) ⌝ }
@@ -54,7 +54,12 @@ fn order(words: &[u32], guards: &[u8; 1024], out: &mut [u32]) -> OrderReply
     if is_irreducible(r) {
         return refusal(r);
     }
-    let open = serial::first_open(endmarks::end_marks(words, guards));
+    let m = endmarks::end_marks(words, guards);
+    let q = m.reply;
+    if is_irreducible(q) {
+        return refusal(q);
+    }
+    let open = serial::first_open(m);
     if let Mark::At(b) = open {
         return OrderReply::Refused(Refused {
             reason: Refusal::OpenBlock,
@@ -68,7 +73,10 @@ fn order(words: &[u32], guards: &[u8; 1024], out: &mut [u32]) -> OrderReply
             place: n,
         });
     }
-    walk::write_order(words, guards, out);
+    let w = walk::write_order(words, guards, out);
+    if is_irreducible(w) {
+        return refusal(w);
+    }
     OrderReply::Written(n)
 }
 

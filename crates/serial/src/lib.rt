@@ -5,6 +5,7 @@ use frame::Frame;
 use frame::Refused;
 use frame::Thread;
 use reply::Mark;
+use reply::Reply;
 ghost use mathlib.Core.Path.{_≡_};
 ghost use mathlib.Core.Bool.{cond};
 ghost use mathlib.Core.List.{_++_};
@@ -22,8 +23,9 @@ pub enum Own {
     Other,
 }
 
-// The depth of each thread, and its outermost begin.
+// What a walk answers, the depth of each thread, and its outermost begin.
 pub struct Marks {
+    pub reply: Reply,
     pub depths: [u8; 32],
     pub begins: [u32; 32],
 }

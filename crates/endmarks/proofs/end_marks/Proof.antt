@@ -5,17 +5,19 @@ use native.Mathlib.Omega.{arith}
 use borrow.Author.Needs.{needs}
 use lib.ListN.{length}
 use Rattle.frame.proofs.Laws.{decoded-in-range}
-use Rattle.serial.specs.Order.{Point}
 use Rattle.pass.proofs.Turn.{frame-held}
-use Rattle.endmarks.proofs.Ends.{EndInv, end-begins, end-done, end-bad, end-fail, end-wrong, end-next}
+use Rattle.serial.specs.Order.{Point}
+use Rattle.endmarks.proofs.Ends.{EndInv, end-begins, reply-done, end-done, reply-bad, end-bad, reply-fail, end-fail, reply-wrong, end-wrong, end-next}
 use Rattle.endmarks.proofs.end_marks.Statement.{statement}
 use Rattle.endmarks.proofs.end_marks.Tie as tie
 
 abbrev Inv-loop : tie.InvT-loop
-Inv-loop words guards owners₀ depths₀ held₀ begins₀ commits₀ sets₀ i₀ owners depths held begins commits sets i = EndInv words guards owners depths held begins commits sets i
+Inv-loop words guards owners₀ depths₀ held₀ begins₀ commits₀ sets₀ i₀ owners depths held begins commits sets i =
+    EndInv words guards owners depths held begins commits sets i
 
 abbrev μ-loop : tie.MeasureT-loop
-μ-loop words guards owners₀ depths₀ held₀ begins₀ commits₀ sets₀ i₀ owners depths held begins commits sets i = length words - i
+μ-loop words guards owners₀ depths₀ held₀ begins₀ commits₀ sets₀ i₀ owners depths held begins commits sets i =
+    length words - i
 
 loop-holds : tie.Need-loop-holds Inv-loop μ-loop
 loop-holds c = end-begins _ _
@@ -35,12 +37,17 @@ enum-known-d c = search needs
 enum-told : tie.Need-enum-told Inv-loop μ-loop
 enum-told c = search needs
 
+refusal-of-requires : tie.Need-refusal-of-requires Inv-loop μ-loop
+refusal-of-requires c κs = search needs
+
+cast-t26 : tie.Need-cast-t26 Inv-loop μ-loop
+cast-t26 c = search needs
+
 returns : tie.Need-returns Inv-loop μ-loop
 returns c =
-    let inv = c .before .before .before .before .before .loop .inv in
-    let h = c .before .before .before .before .loop-test .taken in
-    let q = end-bad inv h (sym (c .before .before .decode .ensures) ∙ c .enum-told .given .1) in
-    (sym (ap (λ (x : Point). x .state .depths) q), sym (ap (λ (x : Point). x .judging .begins) q))
+    let e = sym (c .before .before .before .decode .ensures) ∙ c .before .enum-told .given .1 in
+    let q = end-bad (c .before .before .before .before .before .before .loop .inv) (c .before .before .before .before .before .loop-test .taken) e in
+    (rw (c .refusal-of .ensures, c .before .enum-told .given .1) (sym (reply-bad (c .before .before .before .before .before .before .loop .inv) (c .before .before .before .before .before .loop-test .taken) e)), (sym (ap (λ (x : Point). x .state .depths) q), sym (ap (λ (x : Point). x .judging .begins) q)))
 
 cast-t : tie.Need-cast-t Inv-loop μ-loop
 cast-t c = search needs
@@ -59,14 +66,18 @@ enum-told-2 c = search needs
 enum-told-3 : tie.Need-enum-told-3 Inv-loop μ-loop
 enum-told-3 c = search needs
 
+outcome-refusal-requires : tie.Need-outcome-refusal-requires Inv-loop μ-loop
+outcome-refusal-requires c κs = search needs
+
+cast-t36 : tie.Need-cast-t36 Inv-loop μ-loop
+cast-t36 c = search needs
+
 returns-2 : tie.Need-returns-2 Inv-loop μ-loop
 returns-2 c =
-    let inv = c .before .before .before .before .before .before .before .before .before .before .before .before .before .loop .inv in
-    let h = c .before .before .before .before .before .before .before .before .before .before .before .before .loop-test .taken in
-    let e = sym (c .before .before .before .before .before .before .before .before .before .before .decode .ensures) ∙ c .before .before .before .before .before .before .before .before .d .given .1 in
-    let p = c .before .before .step in
-    let q = end-fail inv h e (rw (c .enum-told3 .given .1) at (p .ensures)) in
-    (sym (ap (λ (x : Point). x .state .depths) q), sym (ap (λ (x : Point). x .judging .begins) q))
+    let e = sym (c .before .before .before .before .before .before .before .before .before .before .before .decode .ensures) ∙ c .before .before .before .before .before .before .before .before .before .d .given .1 in
+    let g = rw (c .before .enum-told3 .given .1) at (c .before .before .before .step .ensures) in
+    let q = end-fail (c .before .before .before .before .before .before .before .before .before .before .before .before .before .before .loop .inv) (c .before .before .before .before .before .before .before .before .before .before .before .before .before .loop-test .taken) e g in
+    (rw (c .outcome-refusal .ensures, c .before .enum-told3 .given .1) (sym (reply-fail (c .before .before .before .before .before .before .before .before .before .before .before .before .before .before .loop .inv) (c .before .before .before .before .before .before .before .before .before .before .before .before .before .loop-test .taken) e g)), (sym (ap (λ (x : Point). x .state .depths) q), sym (ap (λ (x : Point). x .judging .begins) q)))
 
 operation-of-requires : tie.Need-operation-of-requires Inv-loop μ-loop
 operation-of-requires c κs =
@@ -77,12 +88,9 @@ cast-judge c = search needs
 
 judge-requires : tie.Need-judge-requires Inv-loop μ-loop
 judge-requires c κs =
-    let l = c .before .before .before .before .before .before .before .before .before .before .before .before .before .before .before .before .before .before .loop in
-    let h = c .before .before .before .before .before .before .before .before .before .before .before .before .before .before .before .before .before .loop-test .taken in
     let e = sym (c .before .before .before .before .before .before .before .before .before .before .before .before .before .before .before .decode .ensures) ∙ c .before .before .before .before .before .before .before .before .before .before .before .before .before .d .given .1 in
-    let p = c .before .before .before .before .before .before .before .step in
-    let g = rw (c .before .before .before .before .before .enum-told2 .given .1) at (p .ensures) in
-    (decoded-in-range _ _ e .thread, (omega (arith, h, c .before .before .before .before .before .before .before .before .before .before .before .before .before .before .before .before .before .before .before .before .pre), rw (c .before .before .before .before .operation-of .ensures) (frame-held (c .before .before .before .before .before .before .before .before .before .before .before .before .before .before .before .before .before .before .before .before .args .guards .now) (l .depths) (l .inv .follows) (decoded-in-range _ _ e) g .fits)))
+    let g = rw (c .before .before .before .before .before .enum-told2 .given .1) at (c .before .before .before .before .before .before .before .step .ensures) in
+    (decoded-in-range _ _ e .thread, (omega (arith, c .before .before .before .before .before .before .before .before .before .before .before .before .before .before .before .before .before .loop-test .taken, c .before .before .before .before .before .before .before .before .before .before .before .before .before .before .before .before .before .before .before .before .pre), rw (c .before .before .before .before .operation-of .ensures) (frame-held (c .before .before .before .before .before .before .before .before .before .before .before .before .before .before .before .before .before .before .before .before .args .guards .now) (c .before .before .before .before .before .before .before .before .before .before .before .before .before .before .before .before .before .before .loop .depths) (c .before .before .before .before .before .before .before .before .before .before .before .before .before .before .before .before .before .before .loop .inv .follows) (decoded-in-range _ _ e) g .fits)))
 
 enum-told-4 : tie.Need-enum-told-4 Inv-loop μ-loop
 enum-told-4 c = search needs
@@ -92,13 +100,10 @@ enum-told-5 c = search needs
 
 returns-3 : tie.Need-returns-3 Inv-loop μ-loop
 returns-3 c =
-    let inv = c .before .before .before .before .before .before .before .before .before .before .before .before .before .before .before .before .before .before .before .before .before .loop .inv in
-    let h = c .before .before .before .before .before .before .before .before .before .before .before .before .before .before .before .before .before .before .before .before .loop-test .taken in
     let e = sym (c .before .before .before .before .before .before .before .before .before .before .before .before .before .before .before .before .before .before .decode .ensures) ∙ c .before .before .before .before .before .before .before .before .before .before .before .before .before .before .before .before .d .given .1 in
-    let p = c .before .before .before .before .before .before .before .before .before .before .step in
-    let g = rw (c .before .before .before .before .before .before .before .before .enum-told2 .given .1) at (p .ensures) in
-    let q = end-wrong inv h e g (c .before .before .before .before .before .before .before .operation-of .ensures) (c .before .before .judge .ensures .0) (c .enum-told5 .given .1) in
-    (sym (ap (λ (x : Point). x .state .depths) q), sym (ap (λ (x : Point). x .judging .begins) q))
+    let g = rw (c .before .before .before .before .before .before .before .before .enum-told2 .given .1) at (c .before .before .before .before .before .before .before .before .before .before .step .ensures) in
+    let q = end-wrong (c .before .before .before .before .before .before .before .before .before .before .before .before .before .before .before .before .before .before .before .before .before .loop .inv) (c .before .before .before .before .before .before .before .before .before .before .before .before .before .before .before .before .before .before .before .before .loop-test .taken) e g (c .before .before .before .before .before .before .before .operation-of .ensures) (c .before .before .judge .ensures .0) (c .enum-told5 .given .1) in
+    (sym (reply-wrong (c .before .before .before .before .before .before .before .before .before .before .before .before .before .before .before .before .before .before .before .before .before .loop .inv) (c .before .before .before .before .before .before .before .before .before .before .before .before .before .before .before .before .before .before .before .before .loop-test .taken) e g (c .before .before .before .before .before .before .before .operation-of .ensures) (c .before .before .judge .ensures .0) (c .enum-told5 .given .1)), (sym (ap (λ (x : Point). x .state .depths) q), sym (ap (λ (x : Point). x .judging .begins) q)))
 
 add-i : tie.Need-add-i Inv-loop μ-loop
 add-i c = search needs
@@ -108,17 +113,14 @@ loop-less c = search needs
 
 loop-again : tie.Need-loop-again Inv-loop μ-loop
 loop-again c =
-    let inv = c .before .before .before .before .before .before .before .before .before .before .before .before .before .before .before .before .before .before .before .before .before .loop .inv in
-    let h = c .before .before .before .before .before .before .before .before .before .before .before .before .before .before .before .before .before .before .before .before .loop-test .taken in
     let e = sym (c .before .before .before .before .before .before .before .before .before .before .before .before .before .before .before .before .before .before .decode .ensures) ∙ c .before .before .before .before .before .before .before .before .before .before .before .before .before .before .before .before .d .given .1 in
-    let p = c .before .before .before .before .before .before .before .before .before .before .step in
-    let g = rw (c .before .before .before .before .before .before .before .before .enum-told2 .given .1) at (p .ensures) in
-    end-next inv h e g (c .before .before .before .before .before .before .before .operation-of .ensures) (c .before .before .judge .ensures .0) (c .enum-told4 .given .1) (c .before .before .judge .ensures .1)
+    let g = rw (c .before .before .before .before .before .before .before .before .enum-told2 .given .1) at (c .before .before .before .before .before .before .before .before .before .before .step .ensures) in
+    end-next (c .before .before .before .before .before .before .before .before .before .before .before .before .before .before .before .before .before .before .before .before .before .loop .inv) (c .before .before .before .before .before .before .before .before .before .before .before .before .before .before .before .before .before .before .before .before .loop-test .taken) e g (c .before .before .before .before .before .before .before .operation-of .ensures) (c .before .before .judge .ensures .0) (c .enum-told4 .given .1) (c .before .before .judge .ensures .1)
 
 returns-4 : tie.Need-returns-4 Inv-loop μ-loop
 returns-4 c =
     let q = end-done (c .before .loop .inv) (c .loop-test .left) in
-    (sym (ap (λ (x : Point). x .state .depths) q), sym (ap (λ (x : Point). x .judging .begins) q))
+    (sym (reply-done (c .before .loop .inv) (c .loop-test .left)), (sym (ap (λ (x : Point). x .state .depths) q), sym (ap (λ (x : Point). x .judging .begins) q)))
 
 pub end-marks-spec : {M : Type 1} → statement M
 end-marks-spec =
@@ -132,12 +134,16 @@ end-marks-spec =
     decode-requires
     enum-known-d
     enum-told
+    refusal-of-requires
+    cast-t26
     returns
     cast-t
     array-read-depth
     step-requires
     enum-told-2
     enum-told-3
+    outcome-refusal-requires
+    cast-t36
     returns-2
     operation-of-requires
     cast-judge
