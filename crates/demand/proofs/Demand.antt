@@ -1,255 +1,163 @@
--- The third term, and what the code of the serial order needs of it. In this order: chosen locks change no key; the pass of a reducible
--- recording; the term; the walk is the order; which recordings are closed.
-use Prim.Native.Nat.{ℕ, zero, suc, _+_, _-_, _≤_, _<_}
-use mathlib.Core.Path.{_≡_, refl, sym, ap, _∙_, subst}
+-- The third term. In this order: what the comparison's Equal shows; the serial order of a reducible, closed recording; a request for it and
+-- its refusals; the term.
+use Prim.Native.Nat.{ℕ, _+_, _≤_}
+use mathlib.Core.Path.{_≡_, refl, sym, ap, _∙_}
+use mathlib.Core.Logic.{_↔_}
 use mathlib.Core.Bool.{Bool, true, false, cond}
-use mathlib.Core.List.{List, [], _∷_, _++_, map}
+use mathlib.Core.List.{List, [], _∷_}
 use native.Mathlib.Omega.{arith}
-use native.Mathlib.Numerals.{add-one}
-use borrow.Author.Tests.{eqb-true, ltb-true, ltb-false}
-use lib.Dec.{eqb, ltb}
-use lib.ListN.{length, getD, drop, List·getD-eq-default}
-use Rattle.frame.proofs.Shared.{never, either, from-here}
-use Rattle.frame.specs.Frame.{decodeWord, encodeFrame}
-use Rattle.frame.specs.declared.Thread.{Thread}
+use borrow.Author.Tests.{ltb-true, ltb-false}
+use lib.Dec.{ltb}
+use lib.ListN.{length}
+use Rattle.frame.proofs.Shared.{never}
+use Rattle.frame.specs.Frame.{decodeWord}
 use Rattle.frame.specs.declared.Frame.{Frame}
-use Rattle.frame.specs.declared.Action.{Action}
-use Rattle.frame.specs.declared.Action.the-variants as action
-use Rattle.frame.specs.declared.Decoded.{Decoded}
 use Rattle.frame.specs.declared.Decoded.the-variants as decoded
+use Rattle.frame.specs.declared.Refused.{Refused}
+use Rattle.frame.specs.declared.Refusal.the-variants as refusal
+use Rattle.guards.specs.declared.GuardsReply.{GuardsReply}
+use Rattle.guards.specs.declared.GuardsReply.the-variants as guards
+use Rattle.guards.specs.Guards.{guardsRead}
+use Rattle.soundness.proofs.Laws.{check-short, sound-fits, sound-first}
+use Rattle.soundness.specs.Soundness.{State, stepped, stepFrame, checkFrom, checkReply, start}
+use Rattle.soundness.specs.declared.CheckReply.{CheckReply}
+use Rattle.soundness.specs.declared.CheckReply.the-variants as check
+use Rattle.soundness.specs.declared.Outcome.the-variants as outcome
+use Rattle.reply.specs.Reply.{reducible, violated}
 use Rattle.reply.specs.declared.Mark.{Mark}
 use Rattle.reply.specs.declared.Mark.the-variants.{At, Absent}
+use Rattle.reply.specs.declared.Reply.{Reply}
+use Rattle.reply.specs.declared.Reply.the-variants as reply
 use Rattle.reply.specs.declared.Verdict.{Verdict}
 use Rattle.reply.specs.declared.Verdict.the-variants as verdict
-use Rattle.soundness.specs.Soundness.{State, stepFrame, checkFrom, start}
-use Rattle.soundness.specs.declared.Outcome.{Outcome}
-use Rattle.soundness.specs.declared.Outcome.the-variants as outcome
-use Rattle.operation.specs.Operation.{operationOf}
-use Rattle.operation.specs.declared.Operation.{Operation}
-use Rattle.operation.specs.declared.Operation.the-variants.{Acquire, Release, Protected, Unprotected, Inferred, Begin, End}
-use Rattle.pass.specs.Pass.{Ended, judgeFrame, startJudging, fullSets}
-use Rattle.pass.proofs.Judgement.{judgement-pass, judgement-sound}
-use Rattle.rules.specs.Choice.{Reducible, Choice, choose}
-use Rattle.rules.proofs.Choice.{chosen, operation-chosen, inferred-is-some-choice}
-use Rattle.exchange.specs.Exchange.{Exchanges, framesOf}
-use Rattle.exchange.specs.Independent.{independent}
-use Rattle.exchange.proofs.Frames.{AllDecode, frame-word, sound-all-decode}
-use Rattle.equal.proofs.Exchanges.{equal-is-exchanges, exchanged-length}
-use Rattle.serial.specs.Order.{Point, next, phaseOfThread, settled, commits, unitAt, unitsFrom, serialWords, Closed, Contiguous, nest}
-use Rattle.serial.specs.Walk.{ownFrame, onOwn, unitFrom, unitOf, unitStart, unitIn, onJudged, onFrame, walkFrom, walkWords, endPoint, earlier, openBegin, firstOpenFrom, firstOpen}
-use Rattle.serial.specs.declared.Own.{Own}
-use Rattle.serial.specs.declared.Own.the-variants as own
-use Rattle.reduction.proofs.Run as run
-use Rattle.reduction.proofs.Run.{threadOf, Run, begin, Good, depthAt, put}
-use Rattle.reduction.proofs.Steps.{by-test}
-use Rattle.reduction.proofs.Serial.{serialOrder, Serial, serial-exchanges, serial-serial}
-use Rattle.reduction.proofs.Units.{walk, serial-walk}
-use Rattle.reduction.proofs.Alike.{Alike, alike-same, alike-inferred, serialOrder-alike}
-use Rattle.demand.specs.Demand.{ThirdTerm}
-use Rattle.demand.proofs.View.{Declared}
-use Rattle.demand.proofs.Recording.{Pass, less-one, pass-made, start-long, start-view, pass-good, order-frames, pass-depth, pass-walk, pass-end, pass-end-long}
+use Rattle.instrumented.specs.Rules.{Judging}
+use Rattle.pass.specs.Pass.{judgeFrame, judgeFrom, startJudging, fullSets, judgement}
+use Rattle.pass.proofs.Judgement.{judgement-sound}
+use Rattle.verdict.specs.Verdict.{inferredGuards}
+use Rattle.rules.specs.Choice.{Reducible}
+use Rattle.exchange.proofs.Sound.{exchanges-sound}
+use Rattle.exchange.specs.Exchange.{Exchanges, independentWords}
+use Rattle.equal.proofs.Exchanges.{equal-is-exchanges}
+use Rattle.equal.specs.Equal.{afterChecks, equalWords, equalReply}
+use Rattle.equal.specs.declared.EqualReply.the-variants as equal
+use Rattle.serial.specs.Order.{serialWords, Closed}
+use Rattle.serial.specs.Walk.{endPoint, firstOpen}
+use Rattle.orderlaws.proofs.Order.{order-exchanges, order-contiguous, closed-open}
+use Rattle.orderlaws.proofs.Open.{none-closed, first-open}
+use Rattle.order.specs.Order as asked-for
+use Rattle.order.specs.Order.{refused, reducibleReply, closedReply, orderReply, outAfter, orderOut, onList, declaredOrder, declaredOut, inferredOrder, inferredOut}
+use Rattle.order.specs.declared.OrderReply.{OrderReply}
+use Rattle.order.specs.declared.OrderReply.the-variants as order
+use Rattle.demand.specs.Demand.{Sound, RefusedBy, in-list, in-recording, irreducible, still-open, no-room, Asked, ThirdTerm}
 
--- an operation under the chosen locks does the same to locks, depths and commits, and is under no inferred guard
-alike-chosen : (locks : List ℕ) (o : Operation) → Alike o (chosen locks o)
-alike-chosen locks (Acquire l) = alike-same (Acquire l)
-alike-chosen locks (Release l) = alike-same (Release l)
-alike-chosen locks (Protected m) = alike-same (Protected m)
-alike-chosen locks Unprotected = alike-same Unprotected
-alike-chosen locks (Inferred v) = alike-inferred v (record { 0 = getD locks (v .0) 0 })
-alike-chosen locks Begin = alike-same Begin
-alike-chosen locks End = alike-same End
+-- recordings that compare as equal are sound
+equal-sound : (p q : CheckReply) (b : Bool) → afterChecks p q b ≡ equal.Equal → (p ≡ check.Sound) × (q ≡ check.Sound)
+equal-sound (check.Refused x) q b e = never (cc)
+equal-sound check.Sound (check.Refused x) b e = never (cc)
+equal-sound check.Sound check.Sound b e = (refl, refl)
 
-declared-chosen : (locks : List ℕ) (o : Operation) → Declared (chosen locks o)
-declared-chosen locks (Acquire l) = tt
-declared-chosen locks (Release l) = tt
-declared-chosen locks (Protected m) = tt
-declared-chosen locks Unprotected = tt
-declared-chosen locks (Inferred v) = tt
-declared-chosen locks Begin = tt
-declared-chosen locks End = tt
-
-module _ (guards locks : List ℕ) (c : Choice locks) where
-  choice-alike : (a : Action) → Alike (operationOf guards a) (operationOf (choose guards locks) a)
-  choice-alike a = subst (λ (o : Operation). Alike (operationOf guards a) o) (sym (operation-chosen guards locks c a)) (alike-chosen locks (operationOf guards a))
-
-  choice-declared : (a : Action) → Declared (operationOf (choose guards locks) a)
-  choice-declared a = subst Declared (sym (operation-chosen guards locks c a)) (declared-chosen locks (operationOf guards a))
-
--- The pass of a reducible recording.
-pub reducible-pass : (guards ws : List ℕ) → Reducible guards ws → Pass guards 0 start (startJudging fullSets) ws
-reducible-pass guards ws r =
-    pass-made guards 0 start (startJudging fullSets) ws
-    (sym (ap (λ (x : Ended). x .reply) (judgement-pass guards fullSets ws (judgement-sound guards fullSets ws verdict.Reducible r))) ∙ r) start-long
-
--- where all blocks are closed, they are over frames
-closed-frames : (guards ws : List ℕ) → Reducible guards ws → Closed ws → run.Closed (framesOf ws)
-closed-frames guards ws r c t =
-    ap (λ (d : ℕ). depthAt t d (framesOf ws)) (sym (ap (λ (x : Run). x .depth t) start-view)) ∙ (pass-depth guards t (reducible-pass guards ws r) ∙ c t)
-
--- no other thread's frame is inside a block
-nest-same : (d : ℕ) (a : Action) → run.nest d a ≡ nest d a
-nest-same d (action.Acquire l) = refl
-nest-same d (action.Release l) = refl
-nest-same d (action.Read v) = refl
-nest-same d (action.Write v) = refl
-nest-same d action.Begin = sym (add-one d)
-nest-same d action.End = sym (less-one d)
-
-serial-contiguous : (d e : ℕ → ℕ) (l : List Frame) → ((u : ℕ) → d u ≡ e u) → Serial d l → Contiguous e l
-serial-contiguous d e [] h s = tt
-serial-contiguous d e (f ∷ l) h s = (
-  λ u ne. sym (h u) ∙ s .0 u ne,
-  serial-contiguous (put d (threadOf f) (run.nest (d (threadOf f)) (f .action))) (λ u. cond (eqb u (threadOf f)) (nest (e u) (f .action)) (e u)) l
-      (λ u. by-test (eqb u (threadOf f))
-      (λ q. rw q (nest-same (d (threadOf f)) (f .action) ∙ ap (λ (x : ℕ). nest x (f .action)) (ap d (sym (eqb-true _ _ q)) ∙ h u)))
-      (λ q. rw q (h u)))
-      (s .1),
+equal-exactly : (left right : List ℕ) → equalReply left right ≡ equal.Equal ↔ Sound left × Sound right × Exchanges independentWords left right
+equal-exactly left right = (
+  λ e. let s = equal-sound (checkReply left) (checkReply right) (equalWords left right) e in (s .0, s .1, equal-is-exchanges left right (s .0) (s .1) .0 e),
+  λ s. equal-is-exchanges left right (s .0) (s .1) .1 (s .2),
 )
 
--- Exchanges lead to the serial order of a reducible, closed recording.
-pub order-exchanges : (guards ws : List ℕ) → length guards ≡ 1024 → Reducible guards ws → Closed ws
-    → Exchanges independent (framesOf ws) (framesOf (serialWords guards ws))
-order-exchanges guards ws long r c =
-    let k = inferred-is-some-choice guards ws long .0 r in
-    let good : Good (choose guards (k .0)) begin 0 (framesOf ws) =
-    subst (λ (x : Run). Good (choose guards (k .0)) x 0 (framesOf ws)) start-view
-    (pass-good (choose guards (k .0)) (choice-declared guards (k .0) (k .1)) (reducible-pass (choose guards (k .0)) ws (k .2))) in
-    subst (λ (l : List Frame). Exchanges independent (framesOf ws) l)
-    (sym (order-frames guards (reducible-pass guards ws r) ∙ serialOrder-alike guards (choose guards (k .0)) (choice-alike guards (k .0) (k .1)) (framesOf ws)))
-    (serial-exchanges (choose guards (k .0)) (framesOf ws) good (closed-frames guards ws r c))
+order-equal : (table ws : List ℕ) → length table ≡ 1024 → Reducible table ws → Closed ws → equalReply ws (serialWords table ws) ≡ equal.Equal
+order-equal table ws long r c =
+    let x = order-exchanges table ws long r c in
+    let s = judgement-sound table fullSets ws verdict.Reducible r in
+    equal-exactly ws (serialWords table ws) .1 (s, exchanges-sound x s, x)
 
--- In it no other thread's frame is inside a block.
-pub order-contiguous : (guards ws : List ℕ) → Reducible guards ws → Closed ws → Contiguous (λ t. 0) (framesOf (serialWords guards ws))
-order-contiguous guards ws r c =
-    subst (λ (l : List Frame). Contiguous (λ t. 0) l) (sym (order-frames guards (reducible-pass guards ws r)))
-    (serial-contiguous (λ t. 0) (λ t. 0) (serialOrder guards (framesOf ws)) (λ u. refl) (serial-serial guards (framesOf ws) (closed-frames guards ws r c)))
+-- the pass of a recording that is sound from here on refuses nothing
+pass-refuses : (table : List ℕ) (i : ℕ) (s : State) (j : Judging) (ws : List ℕ) (x : Refused) → checkFrom i s ws .reply ≡ check.Sound
+    → judgeFrom table i s j ws .reply ≡ reply.Refused x → ⊥
+unfolding judgeFrom
+pass-refuses table i s j [] x c e = never (cc)
+pass-refuses table i s j (w ∷ ws) x c e =
+    let a = sound-first i s w ws c in
+    go (a .frame) (a .next) (a .is) (a .passes) (judgeFrame table i (a .frame) s j .verdict) refl
+    (λ k. pass-refuses table (i + 1) (a .next) k ws x (a .rest))
+  where
+    go : (f : Frame) (n : State) → decodeWord w ≡ decoded.Frame f → stepFrame f s ≡ stepped outcome.Next n
+        → (v : Verdict) → judgeFrame table i f s j .verdict ≡ v → ((k : Judging) → judgeFrom table (i + 1) n k ws .reply ≡ reply.Refused x → ⊥) → ⊥
+    go f n d g verdict.Reducible q ih = ih (judgeFrame table i f s j .judging) (rw (d, g, q) at e)
+    go f n d g (verdict.Violated v) q ih = let y : violated v ≡ reply.Refused x = rw (d, g, q) at e in never (cc)
+
+-- a recording that its judgement refuses is refused by the check
+judgement-refused : (table ws : List ℕ) (x : Refused) → judgement table fullSets ws .reply ≡ reply.Refused x → checkReply ws ≡ check.Refused x
+unfolding judgement
+judgement-refused table ws x e = go (checkReply ws) refl
+  where
+    go : (q : CheckReply) → checkReply ws ≡ q → checkReply ws ≡ check.Refused x
+    go check.Sound f = absurd (pass-refuses table 0 start (startJudging fullSets) ws x (sym (check-short ws (sound-fits ws f)) ∙ f) (rw f at e))
+    go (check.Refused y) f = let g : reply.Refused y ≡ reply.Refused x = rw f at e in let h : y ≡ x = cc in f ∙ ap check.Refused h
+
+-- A request: what is to hold for the order to be written, and that no refusal holds then.
+module _ (list : GuardsReply) (table ws out : List ℕ) where
+  abbrev Granted : Type 0
+  Granted = (n : ℕ) × (list ≡ guards.Lines n) × Reducible table ws × Closed ws × (length ws ≤ length out)
+
+  not-both : {r : OrderReply} → RefusedBy list table ws out r → Granted → ⊥
+  not-both (in-list {x = x} e) g = let z : guards.Refused x ≡ guards.Lines (g .0) = sym e ∙ g .1 in never (cc)
+  not-both (in-recording {x = x} e c) g =
+      let z : check.Refused x ≡ check.Sound = sym c ∙ judgement-sound table fullSets ws verdict.Reducible (g .2) in
+      never (cc)
+  not-both (irreducible {v = v} e j) g = let z : violated v ≡ reducible = sym j ∙ g .2 in never (cc)
+  not-both (still-open {b = b} e r o) g = none-closed ws b o (g .3)
+  not-both (no-room e r c h) g = let k : length ws ≤ length out = g .4 in omega arith
+
+  -- the request answered by r, which decides what is left
+  abbrev AskedBy : OrderReply → Type 0
+  AskedBy r = Asked list table ws out r (outAfter r (serialWords table ws) out)
+
+  is-written : Granted → AskedBy (order.Written (length ws))
+  is-written g = record { length-exactly-if = (λ e. g, λ h. refl); written = λ e. refl; refused-by = λ n. absurd (n refl) }
+
+  is-refused : (x : Refused) → RefusedBy list table ws out (order.Refused x) → AskedBy (order.Refused x)
+  is-refused x by = record { length-exactly-if = (λ e. no e, λ g. absurd (not-both by g)); written = λ e. no e; refused-by = λ n. (by, refl) }
+    where
+      no : {A : Type 0} → order.Refused x ≡ order.Written (length ws) → A
+      no e = never (cc)
+
+  -- a list that is read
+  module _ (n : ℕ) (read : list ≡ guards.Lines n) where
+    by-room : (b : Bool) → ltb (length out) (length ws) ≡ b → Reducible table ws → Closed ws
+        → AskedBy (cond b (refused refusal.OutputBuffer (length ws)) (order.Written (length ws)))
+    by-room true q r c = is-refused _ (no-room read r c (ltb-true (length out) (length ws) q))
+    by-room false q r c = is-written (n, read, r, c, ltb-false (length out) (length ws) q)
+
+    by-mark : (m : Mark) → firstOpen (endPoint table ws) ≡ m → Reducible table ws → AskedBy (closedReply m (length ws) (length out))
+    by-mark (At b) q r = is-refused _ (still-open read r (first-open table ws r b q))
+    by-mark Absent q r = by-room (ltb (length out) (length ws)) refl r (closed-open table ws r q)
+
+    by-reply : (q : Reply) → judgement table fullSets ws .reply ≡ q
+        → AskedBy (cond (reducibleReply q) (closedReply (firstOpen (endPoint table ws)) (length ws) (length out)) (asked-for.irreducible q))
+    by-reply (reply.Refused x) e = is-refused x (in-recording read (judgement-refused table ws x e))
+    by-reply (reply.Judged verdict.Reducible) e = by-mark (firstOpen (endPoint table ws)) refl e
+    by-reply (reply.Judged (verdict.Violated v)) e = is-refused _ (irreducible read e)
+
+    when-read : AskedBy (orderReply table ws (length out))
+    unfolding orderReply
+    when-read = by-reply (judgement table fullSets ws .reply) refl
+
+asked : (list : GuardsReply) (table ws out : List ℕ) → AskedBy list table ws out (onList list (orderReply table ws (length out)))
+asked (guards.Lines n) table ws out = when-read (guards.Lines n) table ws out n refl
+asked (guards.Refused x) table ws out = is-refused (guards.Refused x) table ws out x (in-list refl)
+
+asked-declared : (list ws out : List ℕ)
+    → Asked (guardsRead list .reply) (guardsRead list .table) ws out (declaredOrder list ws (length out)) (declaredOut list ws out)
+unfolding declaredOrder declaredOut
+asked-declared list ws out = asked (guardsRead list .reply) (guardsRead list .table) ws out
+
+asked-inferred : (ws out : List ℕ) → Asked (guards.Lines 0) inferredGuards ws out (inferredOrder ws (length out)) (inferredOut ws out)
+unfolding inferredOrder inferredOut orderOut
+asked-inferred ws out = asked (guards.Lines 0) inferredGuards ws out
 
 -- The third term.
 pub third-term : ThirdTerm
-third-term = (equal-is-exchanges, λ guards ws long r c. (order-exchanges guards ws long r c, order-contiguous guards ws r c))
-
--- It has as many words as the recording.
-pub order-length : (guards ws : List ℕ) → length guards ≡ 1024 → Reducible guards ws → Closed ws → length (serialWords guards ws) ≡ length ws
-order-length guards ws long r c = sym (exchanged-length ws (serialWords guards ws) (order-exchanges guards ws long r c))
-
--- words that all decode: in a list of both, from a place on, of a commit, of a unit, of a walk
-both-decode : (l r : List ℕ) → AllDecode l → AllDecode r → AllDecode (l ++ r)
-both-decode [] r a b = b
-both-decode (w ∷ l) r a b = (a .0, both-decode l r (a .1) b)
-
-drop-decode : (b : ℕ) (l : List ℕ) → AllDecode l → AllDecode (drop b l)
-drop-decode zero l a = a
-drop-decode (suc b) [] a = tt
-drop-decode (suc b) (w ∷ l) a = drop-decode b l (a .1)
-
-at-decode : (c : ℕ) (ks xs : List ℕ) → AllDecode xs → AllDecode (unitAt c ks xs)
-unfolding unitAt
-at-decode c [] xs a = tt
-at-decode c (k ∷ ks) [] a = tt
-at-decode c (k ∷ ks) (x ∷ xs) a =
-    either AllDecode (eqb k c) {x = x ∷ unitAt c ks xs} {y = unitAt c ks xs} (a .0, at-decode c ks xs (a .1)) (at-decode c ks xs (a .1))
-
-from-decode : (n c : ℕ) (ks xs : List ℕ) → AllDecode xs → AllDecode (unitsFrom n c ks xs)
-unfolding unitsFrom
-from-decode zero c ks xs a = tt
-from-decode (suc n) c ks xs a = both-decode (unitAt c ks xs) (unitsFrom n (c + 1) ks xs) (at-decode c ks xs a) (from-decode n (c + 1) ks xs a)
-
-unit-decode : (t : Thread) (d : ℕ) (ws : List ℕ) → AllDecode ws → AllDecode (unitFrom t d ws)
-unfolding unitFrom
-unit-decode t d [] a = tt
-unit-decode t d (w ∷ ws) a = go (ownFrame (decodeWord w) t d) (λ e. unit-decode t e ws (a .1))
-  where
-    go : (o : Own) → ((e : ℕ) → AllDecode (unitFrom t e ws)) → AllDecode (onOwn o w d (λ e. unitFrom t e ws))
-    go own.Other ih = ih d
-    go (own.Mine e) ih = (a .0, either AllDecode (eqb e 0) {x = []} {y = unitFrom t e ws} tt (ih e))
-
-in-decode : (m : Mark) (all : List ℕ) (t : Thread) → AllDecode all → AllDecode (unitIn m all t)
-unfolding unitOf
-in-decode (At b) all t a = unit-decode t 0 (drop b all) (drop-decode b all a)
-in-decode Absent all t a = tt
-
-turn-decode : (o : Outcome) (v : Verdict) (m : Mark) (all : List ℕ) (t : Thread) (l : List ℕ) → AllDecode all → AllDecode l
-    → AllDecode (onJudged o v (unitIn m all t ++ l))
-turn-decode outcome.Next verdict.Reducible m all t l a b = both-decode (unitIn m all t) l (in-decode m all t a) b
-turn-decode outcome.Next (verdict.Violated v) m all t l a b = tt
-turn-decode (outcome.Bad r) v m all t l a b = tt
-
-frame-decode : (x : Decoded) (l : Frame → List ℕ) → ((f : Frame) → AllDecode (l f)) → AllDecode (onFrame x l)
-frame-decode (decoded.Frame f) l a = a f
-frame-decode (decoded.Bad r) l a = tt
-
-walk-decode : (guards all : List ℕ) (i : ℕ) (p : Point) (ws : List ℕ) → AllDecode all → AllDecode (walkFrom guards all i p ws)
-unfolding walkFrom
-walk-decode guards all i p [] a = tt
-walk-decode guards all i p (w ∷ ws) a =
-    frame-decode (decodeWord w) _
-    (λ f. turn-decode (stepFrame f (p .state) .outcome) (judgeFrame guards i f (p .state) (p .judging) .verdict)
-    (unitStart (phaseOfThread (f .thread) p) (settled (phaseOfThread (f .thread) (next guards i f p))) i) all (f .thread)
-    (walkFrom guards all (i + 1) (next guards i f p) ws) a (walk-decode guards all (i + 1) (next guards i f p) ws a))
-
--- words that all decode are those of their frames
-words-back : (l : List ℕ) → AllDecode l → map encodeFrame (framesOf l) ≡ l
-words-back [] a = refl
-words-back (w ∷ l) a =
-    ap (λ (x : ℕ). x ∷ map encodeFrame (framesOf l)) (frame-word w (a .0)) ∙ ap (λ (x : List ℕ). w ∷ x) (words-back l (a .1))
-
--- The code's walk of a reducible, closed recording gives its serial order.
-pub walk-is-order : (guards ws : List ℕ) → length guards ≡ 1024 → Reducible guards ws → Closed ws → walkWords guards ws ≡ serialWords guards ws
-walk-is-order guards ws long r c =
-    sym (words-back (walkWords guards ws) (walk-decode guards ws 0 _ ws all))
-    ∙ (ap (λ (l : List Frame). map encodeFrame l) same ∙ words-back (serialWords guards ws) (from-decode (length ws) 0 (commits guards ws) ws all))
-  where
-    p : Pass guards 0 start (startJudging fullSets) ws
-    p = reducible-pass guards ws r
-
-    all : AllDecode ws
-    all = sound-all-decode ws (judgement-sound guards fullSets ws verdict.Reducible r)
-
-    same : framesOf (walkWords guards ws) ≡ framesOf (serialWords guards ws)
-    same =
-        pass-walk guards ws (λ t. []) p refl (λ u ne. absurd (ne (ap (λ (x : Run). x .depth u) start-view)))
-        ∙ (ap (λ (x : Run). walk guards x (λ t. []) 0 (framesOf ws)) start-view
-        ∙ (serial-walk guards (framesOf ws) (closed-frames guards ws r c) ∙ sym (order-frames guards p)))
-
--- the earlier of two places is absent where both are, and an open begin where no block is open
-earlier-absent : (x y : Mark) → earlier x y ≡ Absent → (x ≡ Absent) × (y ≡ Absent)
-earlier-absent Absent y e = (refl, e)
-earlier-absent (At x) Absent e = never (cc)
-earlier-absent (At x) (At y) e = go (ltb y x) e
-  where
-    go : (b : Bool) → cond b (At y) (At x) ≡ Absent → (At x ≡ Absent) × (At y ≡ Absent)
-    go true q = never (cc)
-    go false q = never (cc)
-
-open-absent : (d b : ℕ) → openBegin d b ≡ Absent → d ≡ 0
-open-absent d b e = by-test (eqb d 0) (λ q. eqb-true d 0 q) (λ q. let y : At b ≡ Absent = rw q at e in never (cc))
-
-none-open : (n k : ℕ) (m : Mark) (depths begins : List ℕ) → firstOpenFrom n k m depths begins ≡ Absent
-    → (m ≡ Absent) × ((u : ℕ) → k ≤ u → u < k + n → getD depths u 0 ≡ 0)
-unfolding firstOpenFrom
-none-open zero k m depths begins e = (e, λ u p q. absurd (omega arith))
-none-open (suc n) k m depths begins e =
-    let ih = none-open n (k + 1) (earlier m (openBegin (getD depths k 0) (getD begins k 0))) depths begins e in
-    let q = earlier-absent m (openBegin (getD depths k 0) (getD begins k 0)) (ih .0) in (
-      q .0,
-      from-here (λ u. getD depths u 0 ≡ 0) k (k + suc n) (open-absent (getD depths k 0) (getD begins k 0) (q .1)) (λ u p l. ih .1 u p (omega arith)),
-    )
-
-open-none : (n k : ℕ) (depths begins : List ℕ) → ((u : ℕ) → getD depths u 0 ≡ 0) → firstOpenFrom n k Absent depths begins ≡ Absent
-unfolding firstOpenFrom
-open-none zero k depths begins h = refl
-open-none (suc n) k depths begins h = rw (h k) (open-none n (k + 1) depths begins h)
-
--- A reducible recording is closed exactly if no begin is open at its end.
-module _ (guards ws : List ℕ) (r : Reducible guards ws) where
-  end-depth : (t : ℕ) → getD (endPoint guards ws .state .depths) t 0 ≡ getD (checkFrom 0 start ws .state .depths) t 0
-  end-depth t = ap (λ (x : State). getD (x .depths) t 0) (pass-end guards (reducible-pass guards ws r))
-
-  pub closed-open : firstOpen (endPoint guards ws) ≡ Absent → Closed ws
-  closed-open e t = by-test (ltb t 32)
-      (λ q. sym (end-depth t) ∙ none-open 32 0 Absent (endPoint guards ws .state .depths) (endPoint guards ws .judging .begins) e .1 t (omega arith) (omega (arith, ltb-true t 32 q)))
-      (λ q. let l : length (checkFrom 0 start ws .state .depths) ≡ 32 = pass-end-long guards (reducible-pass guards ws r) start-long in
-      List·getD-eq-default (checkFrom 0 start ws .state .depths) 0 (omega (arith, ltb-false t 32 q)))
-
-  pub open-closed : Closed ws → firstOpen (endPoint guards ws) ≡ Absent
-  open-closed c = open-none 32 0 (endPoint guards ws .state .depths) (endPoint guards ws .judging .begins) (λ u. end-depth u ∙ c u)
+third-term = (
+  equal-exactly,
+  λ table ws long r c. (order-equal table ws long r c, order-contiguous table ws r c),
+  asked-declared,
+  asked-inferred,
+)

@@ -1,11 +1,11 @@
 -- Units, commits and the serial order of a recording. In this order: the state of a pass, the commit of each frame's unit, the order by
--- commits over any element type, closed recordings, what a serial order is asked to be.
-use Prim.Native.Nat.{ℕ, zero, suc, _+_, _-_}
+-- commits over any element type, closed recordings and open blocks, what a serial order is asked to be.
+use Prim.Native.Nat.{ℕ, zero, suc, _+_, _-_, _≤_, _<_}
 use mathlib.Core.Path.{_≡_}
 use mathlib.Core.Bool.{Bool, true, false, cond, _&&_}
 use mathlib.Core.List.{List, [], _∷_, _++_}
 use lib.Dec.{eqb}
-use lib.ListN.{length, getD}
+use lib.ListN.{length, getD, take}
 use Rattle.frame.specs.Frame.{decodeWord}
 use Rattle.frame.specs.declared.Thread.{Thread}
 use Rattle.frame.specs.declared.Action.{Action}
@@ -91,6 +91,23 @@ serialWords guards ws = inSerialOrder guards ws ws
 abbrev pub Closed : List ℕ → Type 0
 Closed ws = (t : ℕ) → getD (checkFrom 0 start ws .state .depths) t 0 ≡ 0
 
+-- Thread t's depth after the first i frames.
+abbrev pub depthAfter : List ℕ → ℕ → ℕ → ℕ
+depthAfter ws t i = getD (checkFrom 0 start (take i ws) .state .depths) t 0
+
+-- "Its outermost begin raises the depth from 0 to 1": thread t's block that begins at place b is still open at the end, since the depth is 0
+-- before b, and at no place behind b is it 0 again.
+pub record Open (ws : List ℕ) (t b : ℕ) : Type 0 where
+  pub within : b < length ws
+  pub raised : depthAfter ws t b ≡ 0
+  pub stays : (i : ℕ) → b < i → i ≤ length ws → depthAfter ws t i ≡ 0 → ⊥
+
+-- "smallest place of an open outermost begin"
+pub record FirstOpen (ws : List ℕ) (b : ℕ) : Type 0 where
+  pub thread : ℕ
+  pub is-open : Open ws thread b
+  pub smallest : (t c : ℕ) → Open ws t c → b ≤ c
+
 -- A thread's depth after its action: "its begins less its ends".
 abbrev pub nest : ℕ → Action → ℕ
 nest d (Acquire l) = d
@@ -101,9 +118,12 @@ nest d Begin = d + 1
 nest d End = d - 1
 
 -- "no other thread's frame inside a block" (the paper's figure 6): at each frame every other thread is outside its blocks. `depth` has the
--- depth of each thread before the first frame.
-abbrev pub Contiguous : (ℕ → ℕ) → List Frame → Type 0
+-- depth of each thread before the first frame. A word that is no frame is in no such order.
+abbrev pub contiguousAt : Decoded → (ℕ → ℕ) → ((ℕ → ℕ) → Type 0) → Type 0
+contiguousAt (decoded.Frame f) depth rest =
+    ((u : ℕ) → (u ≡ f .thread .0 → ⊥) → depth u ≡ 0) × rest (λ u. cond (eqb u (f .thread .0)) (nest (depth u) (f .action)) (depth u))
+contiguousAt (decoded.Bad r) depth rest = ⊥
+
+unfoldable pub Contiguous : (ℕ → ℕ) → List ℕ → Type 0
 Contiguous depth [] = Unit {0}
-Contiguous depth (f ∷ fs) =
-    ((u : ℕ) → (u ≡ f .thread .0 → ⊥) → depth u ≡ 0)
-    × Contiguous (λ u. cond (eqb u (f .thread .0)) (nest (depth u) (f .action)) (depth u)) fs
+Contiguous depth (w ∷ ws) = contiguousAt (decodeWord w) depth (λ d. Contiguous d ws)

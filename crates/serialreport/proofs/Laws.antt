@@ -23,7 +23,7 @@ use Rattle.pass.specs.Pass.{fullSets, judgement}
 use Rattle.verdict.specs.Verdict.{inferredGuards}
 use Rattle.serial.specs.Order.{serialWords}
 use Rattle.serial.specs.Walk.{endPoint, firstOpen}
-use Rattle.demand.proofs.Demand.{order-length, closed-open}
+use Rattle.orderlaws.proofs.Order.{order-length, closed-open}
 use Rattle.order.specs.Order.{reducibleReply, irreducible, onList, orderReply, orderOut, outAfter, declaredOrder, declaredOut, inferredOrder, inferredOut}
 use Rattle.order.specs.declared.OrderReply.{OrderReply}
 use Rattle.order.specs.declared.OrderReply.the-variants as order

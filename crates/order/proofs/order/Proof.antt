@@ -3,7 +3,7 @@ use native.Mathlib.Omega.{arith}
 use Rattle.reply.specs.declared.Verdict.the-variants.{Reducible}
 use Rattle.pass.specs.Pass.{fullSets, judgement}
 use Rattle.pass.proofs.Judgement.{judgement-fits}
-use Rattle.demand.proofs.Demand.{walk-is-order, order-length, closed-open}
+use Rattle.orderlaws.proofs.Order.{walk-is-order, order-length, closed-open}
 use Rattle.order.proofs.Laws.{says-reducible, says-irreducible, not-reducible, not-reducible-out, still-open, still-open-out, no-room, no-room-out, is-written, is-written-out}
 use borrow.Author.Needs.{needs}
 use Rattle.order.proofs.order.Statement.{statement}

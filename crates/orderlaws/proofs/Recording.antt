@@ -39,7 +39,7 @@ use Rattle.reduction.proofs.Steps.{by-test}
 use Rattle.reduction.proofs.Serial.{serialOrder, frames-append, frames-keyed, depth-next}
 use Rattle.reduction.proofs.Units as units
 use Rattle.reduction.proofs.Units.{openFrom, emitted, walk}
-use Rattle.demand.proofs.View.{viewOf, Long, Declared, One, run-equal, one-frame}
+use Rattle.orderlaws.proofs.View.{viewOf, Long, Declared, One, run-equal, one-frame}
 
 abbrev pub point : State → Judging → Point
 point s j = record { state = s; judging = j }
@@ -174,7 +174,7 @@ module _ (guards : List ℕ) where
       ∙ ap (λ (m : ℕ). frames (buckets m 0 (keyed guards begin 0 (framesOf ws)))) (sym (length-map ws frameOf)))
 
   -- a thread's depth after a frame
-  depth-now : (t : ℕ) {i : ℕ} {s n : State} {j k : Judging} (f : Frame) → One i (threadOf f) (operationOf guards (f .action)) s j n k
+  pub depth-now : (t : ℕ) {i : ℕ} {s n : State} {j k : Judging} (f : Frame) → One i (threadOf f) (operationOf guards (f .action)) s j n k
       → getD (n .depths) t 0 ≡ cond (eqb (threadOf f) t) (nest (getD (s .depths) t 0) (f .action)) (getD (s .depths) t 0)
   depth-now t {i} {s} {n} {j} {k} f o = ap (λ (x : Run). x .depth t) (o .run) ∙ depth-next guards t (viewOf s j) i f
 

@@ -1,0 +1,236 @@
+-- Exchanges keep a recording sound, and the state at its end. In this order: a frame as a test and a change of one cell; two frames in either
+-- order; one exchange; exchanges.
+use Prim.Native.Nat.{ℕ, _+_, _-_, _≤_}
+use mathlib.Core.Path.{_≡_, refl, sym, ap, _∙_, subst}
+use mathlib.Core.Bool.{Bool, true, false, not, _&&_}
+use mathlib.Core.List.{List, _∷_}
+use lib.Dec.{eqb, leb}
+use lib.ListN.{getD, set}
+use lib.Seq.{getD-set-other, set-comm}
+use borrow.Author.Tests.{eqb-false, not-true}
+use Rattle.frame.proofs.Shared.{never}
+use Rattle.frame.specs.Frame.{decodeWord}
+use Rattle.frame.specs.declared.Action.{Action}
+use Rattle.frame.specs.declared.Action.the-variants.{Acquire, Release, Read, Write, Begin, End}
+use Rattle.frame.specs.declared.Frame.{Frame}
+use Rattle.frame.specs.declared.Decoded.the-variants as decoded
+use Rattle.frame.specs.declared.Refusal.the-variants as refusal
+use Rattle.soundness.proofs.Laws.{check-short, sound-fits, sound-first, passed, spared}
+use Rattle.soundness.specs.Soundness.{State, stateOf, Checked, stepped, stepAction, stepFrame, checkFrom, checkReply, start}
+use Rattle.soundness.specs.declared.CheckReply.the-variants as check
+use Rattle.soundness.specs.declared.Outcome.the-variants as outcome
+use Rattle.exchange.specs.Independent.{clash, independent}
+use Rattle.exchange.specs.Exchange.{Exchange, here, later, Exchanges, done, step, independentWords}
+use Rattle.exchange.proofs.Exchange.{exchanges-length}
+
+-- What a frame does: it tests and sets the owner of one lock, or the depth of one thread, or nothing.
+data Cell : Type 0 where
+  owner : ℕ → (ℕ → Bool) → (ℕ → ℕ) → Cell
+  depth : ℕ → (ℕ → Bool) → (ℕ → ℕ) → Cell
+  none : Cell
+
+abbrev cellOf : ℕ → Action → Cell
+cellOf t (Acquire l) = owner (l .0) (λ x. eqb x 0) (λ x. t + 1)
+cellOf t (Release l) = owner (l .0) (λ x. eqb x (t + 1)) (λ x. 0)
+cellOf t (Read v) = none
+cellOf t (Write v) = none
+cellOf t Begin = depth t (λ x. not (leb 15 x)) (λ x. x + 1)
+cellOf t End = depth t (λ x. not (eqb x 0)) (λ x. x - 1)
+
+abbrev passes : Cell → State → Bool
+passes (owner m ok to) s = ok (getD (s .owners) m 0)
+passes (depth t ok to) s = ok (getD (s .depths) t 0)
+passes none s = true
+
+abbrev change : Cell → State → State
+change (owner m ok to) s = stateOf (set (s .owners) m (to (getD (s .owners) m 0))) (s .depths)
+change (depth t ok to) s = stateOf (s .owners) (set (s .depths) t (to (getD (s .depths) t 0)))
+change none s = s
+
+-- a step on is a test passed and the change
+does : (t : ℕ) (a : Action) (s n : State) → stepAction t a s ≡ stepped outcome.Next n → (passes (cellOf t a) s ≡ true) × (n ≡ change (cellOf t a) s)
+unfolding stepAction
+does t (Acquire l) s n e = passed _ refusal.LockTaken s _ n e
+does t (Release l) s n e = passed _ refusal.LockNotHeld s _ n e
+does t (Read v) s n e = (refl, sym (ap (λ x. x .state) e))
+does t (Write v) s n e = (refl, sym (ap (λ x. x .state) e))
+does t Begin s n e = let q = spared (leb 15 (getD (s .depths) t 0)) refusal.TooDeep s _ n e in (rw (q .0), q .1)
+does t End s n e = let q = spared (eqb (getD (s .depths) t 0) 0) refusal.NoOpenBlock s _ n e in (rw (q .0), q .1)
+
+steps : (t : ℕ) (a : Action) (s : State) → passes (cellOf t a) s ≡ true → stepAction t a s ≡ stepped outcome.Next (change (cellOf t a) s)
+unfolding stepAction
+steps t (Acquire l) s e = rw e
+steps t (Release l) s e = rw e
+steps t (Read v) s e = refl
+steps t (Write v) s e = refl
+steps t Begin s e = rw (not-true (leb 15 (getD (s .depths) t 0)) e)
+steps t End s e = rw (not-true (eqb (getD (s .depths) t 0) 0) e)
+
+-- not the same cell
+abbrev Apart : Cell → Cell → Type 0
+Apart (owner m ok to) (owner k ok′ to′) = k ≡ m → ⊥
+Apart (owner m ok to) (depth u ok′ to′) = Unit {0}
+Apart (owner m ok to) none = Unit {0}
+Apart (depth t ok to) (owner k ok′ to′) = Unit {0}
+Apart (depth t ok to) (depth u ok′ to′) = u ≡ t → ⊥
+Apart (depth t ok to) none = Unit {0}
+Apart none q = Unit {0}
+
+test-kept : (p q : Cell) (s : State) → Apart p q → passes q (change p s) ≡ passes q s
+test-kept (owner m ok to) (owner k ok′ to′) s a = ap ok′ (getD-set-other (s .owners) m k _ 0 a)
+test-kept (owner m ok to) (depth u ok′ to′) s a = refl
+test-kept (owner m ok to) none s a = refl
+test-kept (depth t ok to) (owner k ok′ to′) s a = refl
+test-kept (depth t ok to) (depth u ok′ to′) s a = ap ok′ (getD-set-other (s .depths) t u _ 0 a)
+test-kept (depth t ok to) none s a = refl
+test-kept none q s a = refl
+
+set-twice : (l : List ℕ) (m k : ℕ) (to to′ : ℕ → ℕ) → (k ≡ m → ⊥)
+    → set (set l m (to (getD l m 0))) k (to′ (getD (set l m (to (getD l m 0))) k 0))
+    ≡ set (set l k (to′ (getD l k 0))) m (to (getD (set l k (to′ (getD l k 0))) m 0))
+set-twice l m k to to′ a =
+    rw (getD-set-other l m k (to (getD l m 0)) 0 a, getD-set-other l k m (to′ (getD l k 0)) 0 (λ e. a (sym e)))
+    (set-comm l m k (to (getD l m 0)) (to′ (getD l k 0)) (λ e. a (sym e)))
+
+changes : (p q : Cell) (s : State) → Apart p q → change q (change p s) ≡ change p (change q s)
+changes (owner m ok to) (owner k ok′ to′) s a = ap (λ o. stateOf o (s .depths)) (set-twice (s .owners) m k to to′ a)
+changes (owner m ok to) (depth u ok′ to′) s a = refl
+changes (owner m ok to) none s a = refl
+changes (depth t ok to) (owner k ok′ to′) s a = refl
+changes (depth t ok to) (depth u ok′ to′) s a = ap (λ d. stateOf (s .owners) d) (set-twice (s .depths) t u to to′ a)
+changes (depth t ok to) none s a = refl
+changes none q s a = refl
+
+back : (p q : Cell) → Apart p q → Apart q p
+back (owner m ok to) (owner k ok′ to′) a = λ e. a (sym e)
+back (owner m ok to) (depth u ok′ to′) a = tt
+back (owner m ok to) none a = tt
+back (depth t ok to) (owner k ok′ to′) a = tt
+back (depth t ok to) (depth u ok′ to′) a = λ e. a (sym e)
+back (depth t ok to) none a = tt
+back none (owner k ok′ to′) a = tt
+back none (depth u ok′ to′) a = tt
+back none none a = tt
+
+both : (x y : Bool) → not x && not y ≡ true → (x ≡ false) × (y ≡ false)
+both true y e = never (cc)
+both false true e = never (cc)
+both false false e = (refl, refl)
+
+-- independent frames touch different cells
+cells : (t u : ℕ) (a b : Action) → (t ≡ u → ⊥) → clash a b ≡ false → Apart (cellOf t a) (cellOf u b)
+cells t u (Acquire l) (Acquire k) n e = λ z. eqb-false (l .0) (k .0) e (sym z)
+cells t u (Acquire l) (Release k) n e = λ z. eqb-false (l .0) (k .0) e (sym z)
+cells t u (Acquire l) (Read v) n e = tt
+cells t u (Acquire l) (Write v) n e = tt
+cells t u (Acquire l) Begin n e = tt
+cells t u (Acquire l) End n e = tt
+cells t u (Release l) (Acquire k) n e = λ z. eqb-false (l .0) (k .0) e (sym z)
+cells t u (Release l) (Release k) n e = λ z. eqb-false (l .0) (k .0) e (sym z)
+cells t u (Release l) (Read v) n e = tt
+cells t u (Release l) (Write v) n e = tt
+cells t u (Release l) Begin n e = tt
+cells t u (Release l) End n e = tt
+cells t u (Read v) b n e = tt
+cells t u (Write v) b n e = tt
+cells t u Begin (Acquire k) n e = tt
+cells t u Begin (Release k) n e = tt
+cells t u Begin (Read v) n e = tt
+cells t u Begin (Write v) n e = tt
+cells t u Begin Begin n e = λ z. n (sym z)
+cells t u Begin End n e = λ z. n (sym z)
+cells t u End (Acquire k) n e = tt
+cells t u End (Release k) n e = tt
+cells t u End (Read v) n e = tt
+cells t u End (Write v) n e = tt
+cells t u End Begin n e = λ z. n (sym z)
+cells t u End End n e = λ z. n (sym z)
+
+-- Two independent frames, in the other order.
+record Turned (f g : Frame) (s k : State) : Type 0 where
+  between : State
+  first : stepFrame g s ≡ stepped outcome.Next between
+  second : stepFrame f between ≡ stepped outcome.Next k
+
+turn : (f g : Frame) (s n k : State) → independent f g ≡ true → stepFrame f s ≡ stepped outcome.Next n → stepFrame g n ≡ stepped outcome.Next k
+    → Turned f g s k
+turn f g s n k i a b = record {
+  between = change q s;
+  first = steps u (g .action) s q-first;
+  second = steps t (f .action) (change q s) p-second ∙ ap (stepped outcome.Next) (sym (changes p q s c) ∙ sym at-end);
+}
+  where
+    t : ℕ
+    t = f .thread .0
+
+    u : ℕ
+    u = g .thread .0
+
+    p : Cell
+    p = cellOf t (f .action)
+
+    q : Cell
+    q = cellOf u (g .action)
+
+    apart : (eqb t u ≡ false) × (clash (f .action) (g .action) ≡ false)
+    apart = both (eqb t u) (clash (f .action) (g .action)) i
+
+    c : Apart p q
+    c = cells t u (f .action) (g .action) (eqb-false t u (apart .0)) (apart .1)
+
+    at-end : k ≡ change q (change p s)
+    at-end = does u (g .action) n k b .1 ∙ ap (change q) (does t (f .action) s n a .1)
+
+    q-first : passes q s ≡ true
+    q-first = sym (test-kept p q s c) ∙ (ap (passes q) (sym (does t (f .action) s n a .1)) ∙ does u (g .action) n k b .0)
+
+    p-second : passes p (change q s) ≡ true
+    p-second = test-kept q p s (back p q c) ∙ does t (f .action) s n a .0
+
+-- the pass goes on behind a frame that steps
+pub goes-on : (i : ℕ) (s n : State) (w : ℕ) (ws : List ℕ) (f : Frame) → decodeWord w ≡ decoded.Frame f → stepFrame f s ≡ stepped outcome.Next n
+    → checkFrom i s (w ∷ ws) ≡ checkFrom (i + 1) n ws
+unfolding checkFrom
+goes-on i s n w ws f d g = rw (d, g)
+
+independent-frames : (w v : ℕ) (f g : Frame) → decodeWord w ≡ decoded.Frame f → decodeWord v ≡ decoded.Frame g → independentWords w v ≡ true
+    → independent f g ≡ true
+independent-frames w v f g d e i = rw (d, e) at i
+
+-- one exchange
+exchange-check : {l r : List ℕ} → Exchange independentWords l r → (i : ℕ) (s : State) → checkFrom i s l .reply ≡ check.Sound
+    → checkFrom i s l ≡ checkFrom i s r
+exchange-check (here {f = w} {g = v} {l = l} x) i s e =
+    let a = sound-first i s w (v ∷ l) e in
+    let b = sound-first (i + 1) (a .next) v l (a .rest) in
+    let q = turn (a .frame) (b .frame) s (a .next) (b .next) (independent-frames w v (a .frame) (b .frame) (a .is) (b .is) x) (a .passes) (b .passes) in
+    goes-on i s (a .next) w (v ∷ l) (a .frame) (a .is) (a .passes)
+    ∙ (goes-on (i + 1) (a .next) (b .next) v l (b .frame) (b .is) (b .passes)
+    ∙ sym (goes-on i s (q .between) v (w ∷ l) (b .frame) (b .is) (q .first)
+    ∙ goes-on (i + 1) (q .between) (b .next) w l (a .frame) (a .is) (q .second)))
+exchange-check (later {f = w} {l = l} {r = r} x) i s e =
+    let a = sound-first i s w l e in
+    goes-on i s (a .next) w l (a .frame) (a .is) (a .passes)
+    ∙ (exchange-check x (i + 1) (a .next) (a .rest) ∙ sym (goes-on i s (a .next) w r (a .frame) (a .is) (a .passes)))
+
+-- exchanges change neither the reply nor the state that the pass leaves
+exchanges-check : {l r : List ℕ} → Exchanges independentWords l r → (i : ℕ) (s : State) → checkFrom i s l .reply ≡ check.Sound
+    → checkFrom i s l ≡ checkFrom i s r
+exchanges-check done i s e = refl
+exchanges-check (step x y) i s e =
+    let q = exchange-check x i s e in
+    q ∙ exchanges-check y i s (ap (λ (c : Checked). c .reply) (sym q) ∙ e)
+
+module _ {l r : List ℕ} (x : Exchanges independentWords l r) (e : checkReply l ≡ check.Sound) where
+  from-start : checkFrom 0 start l ≡ checkFrom 0 start r
+  from-start = exchanges-check x 0 start (sym (check-short l (sound-fits l e)) ∙ e)
+
+  -- What exchanges make of a sound recording is sound.
+  pub exchanges-sound : checkReply r ≡ check.Sound
+  exchanges-sound =
+      check-short r (subst (λ n. n ≤ 4096) (exchanges-length independentWords x) (sound-fits l e))
+      ∙ (ap (λ (c : Checked). c .reply) (sym from-start) ∙ (sym (check-short l (sound-fits l e)) ∙ e))
+
+  -- It leaves the same state.
+  pub exchanges-state : checkFrom 0 start l .state ≡ checkFrom 0 start r .state
+  exchanges-state = ap (λ (c : Checked). c .state) from-start

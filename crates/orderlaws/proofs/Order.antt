@@ -1,0 +1,269 @@
+-- The serial order of a reducible, closed recording. In this order: chosen locks change no key; the pass of a reducible recording; exchanges
+-- lead to the order, of words that all decode; in it no other thread's frame is inside a block; the walk is the order; which recordings are
+-- closed.
+use Prim.Native.Nat.{ℕ, zero, suc, _+_, _-_, _≤_, _<_}
+use mathlib.Core.Path.{_≡_, refl, sym, ap, _∙_, subst}
+use mathlib.Core.Bool.{Bool, true, false, cond}
+use mathlib.Core.List.{List, [], _∷_, _++_, map}
+use native.Mathlib.Omega.{arith}
+use native.Mathlib.Numerals.{add-one}
+use borrow.Author.Tests.{eqb-true, ltb-true, ltb-false}
+use lib.Dec.{eqb, ltb}
+use lib.ListN.{length, getD, drop, List·getD-eq-default}
+use Rattle.frame.proofs.Shared.{never, either, from-here}
+use Rattle.frame.specs.Frame.{decodeWord, encodeFrame}
+use Rattle.frame.specs.declared.Thread.{Thread}
+use Rattle.frame.specs.declared.Frame.{Frame}
+use Rattle.frame.specs.declared.Action.{Action}
+use Rattle.frame.specs.declared.Action.the-variants as action
+use Rattle.frame.specs.declared.Decoded.{Decoded}
+use Rattle.frame.specs.declared.Decoded.the-variants as decoded
+use Rattle.reply.specs.declared.Mark.{Mark}
+use Rattle.reply.specs.declared.Mark.the-variants.{At, Absent}
+use Rattle.reply.specs.declared.Verdict.{Verdict}
+use Rattle.reply.specs.declared.Verdict.the-variants as verdict
+use Rattle.soundness.specs.Soundness.{State, stepFrame, checkFrom, start}
+use Rattle.soundness.specs.declared.Outcome.{Outcome}
+use Rattle.soundness.specs.declared.Outcome.the-variants as outcome
+use Rattle.operation.specs.Operation.{operationOf}
+use Rattle.operation.specs.declared.Operation.{Operation}
+use Rattle.operation.specs.declared.Operation.the-variants.{Acquire, Release, Protected, Unprotected, Inferred, Begin, End}
+use Rattle.pass.specs.Pass.{Ended, judgeFrame, startJudging, fullSets}
+use Rattle.pass.proofs.Judgement.{judgement-pass, judgement-sound}
+use Rattle.rules.specs.Choice.{Reducible, Choice, choose}
+use Rattle.rules.proofs.Choice.{chosen, operation-chosen, inferred-is-some-choice}
+use Rattle.exchange.specs.Exchange.{Exchanges, independentWords, frameOf, framesOf}
+use Rattle.exchange.specs.Independent.{independent}
+use Rattle.exchange.proofs.Exchange.{exchanges-length}
+use Rattle.exchange.proofs.Frames.{AllDecode, frame-word, sound-all-decode, frames-words, apart-words}
+use Rattle.serial.specs.Order.{Point, next, phaseOfThread, settled, commits, unitAt, unitsFrom, serialWords, Closed, contiguousAt, Contiguous, nest}
+use Rattle.serial.specs.Walk.{ownFrame, onOwn, unitFrom, unitOf, unitStart, unitIn, onJudged, onFrame, walkFrom, walkWords, endPoint, earlier, openBegin, firstOpenFrom, firstOpen}
+use Rattle.serial.specs.declared.Own.{Own}
+use Rattle.serial.specs.declared.Own.the-variants as own
+use Rattle.reduction.proofs.Run as run
+use Rattle.reduction.proofs.Run.{threadOf, Run, begin, Good, depthAt, put}
+use Rattle.reduction.proofs.Steps.{by-test}
+use Rattle.reduction.proofs.Serial.{Serial, serial-exchanges, serial-serial}
+use Rattle.reduction.proofs.Units.{walk, serial-walk}
+use Rattle.reduction.proofs.Alike.{Alike, alike-same, alike-inferred, serialOrder-alike}
+use Rattle.orderlaws.proofs.View.{Declared}
+use Rattle.orderlaws.proofs.Recording.{Pass, less-one, pass-made, start-long, start-view, pass-good, order-frames, pass-depth, pass-walk, pass-end, pass-end-long}
+
+-- an operation under the chosen locks does the same to locks, depths and commits, and is under no inferred guard
+alike-chosen : (locks : List ℕ) (o : Operation) → Alike o (chosen locks o)
+alike-chosen locks (Acquire l) = alike-same (Acquire l)
+alike-chosen locks (Release l) = alike-same (Release l)
+alike-chosen locks (Protected m) = alike-same (Protected m)
+alike-chosen locks Unprotected = alike-same Unprotected
+alike-chosen locks (Inferred v) = alike-inferred v (record { 0 = getD locks (v .0) 0 })
+alike-chosen locks Begin = alike-same Begin
+alike-chosen locks End = alike-same End
+
+declared-chosen : (locks : List ℕ) (o : Operation) → Declared (chosen locks o)
+declared-chosen locks (Acquire l) = tt
+declared-chosen locks (Release l) = tt
+declared-chosen locks (Protected m) = tt
+declared-chosen locks Unprotected = tt
+declared-chosen locks (Inferred v) = tt
+declared-chosen locks Begin = tt
+declared-chosen locks End = tt
+
+module _ (guards locks : List ℕ) (c : Choice locks) where
+  choice-alike : (a : Action) → Alike (operationOf guards a) (operationOf (choose guards locks) a)
+  choice-alike a = subst (λ (o : Operation). Alike (operationOf guards a) o) (sym (operation-chosen guards locks c a)) (alike-chosen locks (operationOf guards a))
+
+  choice-declared : (a : Action) → Declared (operationOf (choose guards locks) a)
+  choice-declared a = subst Declared (sym (operation-chosen guards locks c a)) (declared-chosen locks (operationOf guards a))
+
+-- The pass of a reducible recording.
+pub reducible-pass : (guards ws : List ℕ) → Reducible guards ws → Pass guards 0 start (startJudging fullSets) ws
+reducible-pass guards ws r =
+    pass-made guards 0 start (startJudging fullSets) ws
+    (sym (ap (λ (x : Ended). x .reply) (judgement-pass guards fullSets ws (judgement-sound guards fullSets ws verdict.Reducible r))) ∙ r) start-long
+
+-- where all blocks are closed, they are over frames
+closed-frames : (guards ws : List ℕ) → Reducible guards ws → Closed ws → run.Closed (framesOf ws)
+closed-frames guards ws r c t =
+    ap (λ (d : ℕ). depthAt t d (framesOf ws)) (sym (ap (λ (x : Run). x .depth t) start-view)) ∙ (pass-depth guards t (reducible-pass guards ws r) ∙ c t)
+
+-- words that all decode: in a list of both, of a commit, of units
+both-decode : (l r : List ℕ) → AllDecode l → AllDecode r → AllDecode (l ++ r)
+both-decode [] r a b = b
+both-decode (w ∷ l) r a b = (a .0, both-decode l r (a .1) b)
+
+at-decode : (c : ℕ) (ks xs : List ℕ) → AllDecode xs → AllDecode (unitAt c ks xs)
+unfolding unitAt
+at-decode c [] xs a = tt
+at-decode c (k ∷ ks) [] a = tt
+at-decode c (k ∷ ks) (x ∷ xs) a =
+    either AllDecode (eqb k c) {x = x ∷ unitAt c ks xs} {y = unitAt c ks xs} (a .0, at-decode c ks xs (a .1)) (at-decode c ks xs (a .1))
+
+from-decode : (n c : ℕ) (ks xs : List ℕ) → AllDecode xs → AllDecode (unitsFrom n c ks xs)
+unfolding unitsFrom
+from-decode zero c ks xs a = tt
+from-decode (suc n) c ks xs a = both-decode (unitAt c ks xs) (unitsFrom n (c + 1) ks xs) (at-decode c ks xs a) (from-decode n (c + 1) ks xs a)
+
+reducible-decode : (guards ws : List ℕ) → Reducible guards ws → AllDecode ws
+reducible-decode guards ws r = sound-all-decode ws (judgement-sound guards fullSets ws verdict.Reducible r)
+
+order-decode : (guards ws : List ℕ) → Reducible guards ws → AllDecode (serialWords guards ws)
+order-decode guards ws r = from-decode (length ws) 0 (commits guards ws) ws (reducible-decode guards ws r)
+
+-- Exchanges lead to the serial order of a reducible, closed recording: of its frames
+frames-exchanged : (guards ws : List ℕ) → length guards ≡ 1024 → Reducible guards ws → Closed ws
+    → Exchanges independent (framesOf ws) (framesOf (serialWords guards ws))
+frames-exchanged guards ws long r c =
+    let k = inferred-is-some-choice guards ws long .0 r in
+    let good : Good (choose guards (k .0)) begin 0 (framesOf ws) =
+    subst (λ (x : Run). Good (choose guards (k .0)) x 0 (framesOf ws)) start-view
+    (pass-good (choose guards (k .0)) (choice-declared guards (k .0) (k .1)) (reducible-pass (choose guards (k .0)) ws (k .2))) in
+    subst (λ (l : List Frame). Exchanges independent (framesOf ws) l)
+    (sym (order-frames guards (reducible-pass guards ws r) ∙ serialOrder-alike guards (choose guards (k .0)) (choice-alike guards (k .0) (k .1)) (framesOf ws)))
+    (serial-exchanges (choose guards (k .0)) (framesOf ws) good (closed-frames guards ws r c))
+
+-- and of its words
+pub order-exchanges : (guards ws : List ℕ) → length guards ≡ 1024 → Reducible guards ws → Closed ws → Exchanges independentWords ws (serialWords guards ws)
+order-exchanges guards ws long r c =
+    let all = reducible-decode guards ws r in
+    apart-words all (frames-words ws (serialWords guards ws) all (order-decode guards ws r) (frames-exchanged guards ws long r c))
+
+-- It has as many words as the recording.
+pub order-length : (guards ws : List ℕ) → length guards ≡ 1024 → Reducible guards ws → Closed ws → length (serialWords guards ws) ≡ length ws
+order-length guards ws long r c = sym (exchanges-length independentWords (order-exchanges guards ws long r c))
+
+-- a thread's depth, in the theory and in the claim
+nest-same : (d : ℕ) (a : Action) → run.nest d a ≡ nest d a
+nest-same d (action.Acquire l) = refl
+nest-same d (action.Release l) = refl
+nest-same d (action.Read v) = refl
+nest-same d (action.Write v) = refl
+nest-same d action.Begin = sym (add-one d)
+nest-same d action.End = sym (less-one d)
+
+serial-contiguous : (d e : ℕ → ℕ) (ws : List ℕ) → AllDecode ws → ((u : ℕ) → d u ≡ e u) → Serial d (framesOf ws) → Contiguous e ws
+unfolding Contiguous
+serial-contiguous d e [] a h s = tt
+serial-contiguous d e (w ∷ ws) a h s = subst (λ (x : Decoded). contiguousAt x e (λ z. Contiguous z ws)) (sym (a .0)) (
+  λ u ne. sym (h u) ∙ s .0 u ne,
+  serial-contiguous (put d t (run.nest (d t) (frameOf w .action))) (λ u. cond (eqb u t) (nest (e u) (frameOf w .action)) (e u)) ws (a .1)
+      (λ u. by-test (eqb u t)
+      (λ q. rw q (nest-same (d t) (frameOf w .action) ∙ ap (λ (x : ℕ). nest x (frameOf w .action)) (ap d (sym (eqb-true _ _ q)) ∙ h u)))
+      (λ q. rw q (h u)))
+      (s .1),
+)
+  where
+    t : ℕ
+    t = threadOf (frameOf w)
+
+-- In it no other thread's frame is inside a block.
+pub order-contiguous : (guards ws : List ℕ) → Reducible guards ws → Closed ws → Contiguous (λ t. 0) (serialWords guards ws)
+order-contiguous guards ws r c =
+    serial-contiguous (λ t. 0) (λ t. 0) (serialWords guards ws) (order-decode guards ws r) (λ u. refl)
+    (subst (λ (l : List Frame). Serial (λ t. 0) l) (sym (order-frames guards (reducible-pass guards ws r)))
+    (serial-serial guards (framesOf ws) (closed-frames guards ws r c)))
+
+-- words that all decode: from a place on, of a unit, of a walk
+drop-decode : (b : ℕ) (l : List ℕ) → AllDecode l → AllDecode (drop b l)
+drop-decode zero l a = a
+drop-decode (suc b) [] a = tt
+drop-decode (suc b) (w ∷ l) a = drop-decode b l (a .1)
+
+unit-decode : (t : Thread) (d : ℕ) (ws : List ℕ) → AllDecode ws → AllDecode (unitFrom t d ws)
+unfolding unitFrom
+unit-decode t d [] a = tt
+unit-decode t d (w ∷ ws) a = go (ownFrame (decodeWord w) t d) (λ e. unit-decode t e ws (a .1))
+  where
+    go : (o : Own) → ((e : ℕ) → AllDecode (unitFrom t e ws)) → AllDecode (onOwn o w d (λ e. unitFrom t e ws))
+    go own.Other ih = ih d
+    go (own.Mine e) ih = (a .0, either AllDecode (eqb e 0) {x = []} {y = unitFrom t e ws} tt (ih e))
+
+in-decode : (m : Mark) (all : List ℕ) (t : Thread) → AllDecode all → AllDecode (unitIn m all t)
+unfolding unitOf
+in-decode (At b) all t a = unit-decode t 0 (drop b all) (drop-decode b all a)
+in-decode Absent all t a = tt
+
+turn-decode : (o : Outcome) (v : Verdict) (m : Mark) (all : List ℕ) (t : Thread) (l : List ℕ) → AllDecode all → AllDecode l
+    → AllDecode (onJudged o v (unitIn m all t ++ l))
+turn-decode outcome.Next verdict.Reducible m all t l a b = both-decode (unitIn m all t) l (in-decode m all t a) b
+turn-decode outcome.Next (verdict.Violated v) m all t l a b = tt
+turn-decode (outcome.Bad r) v m all t l a b = tt
+
+frame-decode : (x : Decoded) (l : Frame → List ℕ) → ((f : Frame) → AllDecode (l f)) → AllDecode (onFrame x l)
+frame-decode (decoded.Frame f) l a = a f
+frame-decode (decoded.Bad r) l a = tt
+
+walk-decode : (guards all : List ℕ) (i : ℕ) (p : Point) (ws : List ℕ) → AllDecode all → AllDecode (walkFrom guards all i p ws)
+unfolding walkFrom
+walk-decode guards all i p [] a = tt
+walk-decode guards all i p (w ∷ ws) a =
+    frame-decode (decodeWord w) _
+    (λ f. turn-decode (stepFrame f (p .state) .outcome) (judgeFrame guards i f (p .state) (p .judging) .verdict)
+    (unitStart (phaseOfThread (f .thread) p) (settled (phaseOfThread (f .thread) (next guards i f p))) i) all (f .thread)
+    (walkFrom guards all (i + 1) (next guards i f p) ws) a (walk-decode guards all (i + 1) (next guards i f p) ws a))
+
+-- words that all decode are those of their frames
+words-back : (l : List ℕ) → AllDecode l → map encodeFrame (framesOf l) ≡ l
+words-back [] a = refl
+words-back (w ∷ l) a =
+    ap (λ (x : ℕ). x ∷ map encodeFrame (framesOf l)) (frame-word w (a .0)) ∙ ap (λ (x : List ℕ). w ∷ x) (words-back l (a .1))
+
+-- The code's walk of a reducible, closed recording gives its serial order.
+pub walk-is-order : (guards ws : List ℕ) → length guards ≡ 1024 → Reducible guards ws → Closed ws → walkWords guards ws ≡ serialWords guards ws
+walk-is-order guards ws long r c =
+    sym (words-back (walkWords guards ws) (walk-decode guards ws 0 _ ws all))
+    ∙ (ap (λ (l : List Frame). map encodeFrame l) same ∙ words-back (serialWords guards ws) (order-decode guards ws r))
+  where
+    p : Pass guards 0 start (startJudging fullSets) ws
+    p = reducible-pass guards ws r
+
+    all : AllDecode ws
+    all = reducible-decode guards ws r
+
+    same : framesOf (walkWords guards ws) ≡ framesOf (serialWords guards ws)
+    same =
+        pass-walk guards ws (λ t. []) p refl (λ u ne. absurd (ne (ap (λ (x : Run). x .depth u) start-view)))
+        ∙ (ap (λ (x : Run). walk guards x (λ t. []) 0 (framesOf ws)) start-view
+        ∙ (serial-walk guards (framesOf ws) (closed-frames guards ws r c) ∙ sym (order-frames guards p)))
+
+-- the earlier of two places is absent where both are, and an open begin where no block is open
+earlier-absent : (x y : Mark) → earlier x y ≡ Absent → (x ≡ Absent) × (y ≡ Absent)
+earlier-absent Absent y e = (refl, e)
+earlier-absent (At x) Absent e = never (cc)
+earlier-absent (At x) (At y) e = go (ltb y x) e
+  where
+    go : (b : Bool) → cond b (At y) (At x) ≡ Absent → (At x ≡ Absent) × (At y ≡ Absent)
+    go true q = never (cc)
+    go false q = never (cc)
+
+open-absent : (d b : ℕ) → openBegin d b ≡ Absent → d ≡ 0
+open-absent d b e = by-test (eqb d 0) (λ q. eqb-true d 0 q) (λ q. let y : At b ≡ Absent = rw q at e in never (cc))
+
+none-open : (n k : ℕ) (m : Mark) (depths begins : List ℕ) → firstOpenFrom n k m depths begins ≡ Absent
+    → (m ≡ Absent) × ((u : ℕ) → k ≤ u → u < k + n → getD depths u 0 ≡ 0)
+unfolding firstOpenFrom
+none-open zero k m depths begins e = (e, λ u p q. absurd (omega arith))
+none-open (suc n) k m depths begins e =
+    let ih = none-open n (k + 1) (earlier m (openBegin (getD depths k 0) (getD begins k 0))) depths begins e in
+    let q = earlier-absent m (openBegin (getD depths k 0) (getD begins k 0)) (ih .0) in (
+      q .0,
+      from-here (λ u. getD depths u 0 ≡ 0) k (k + suc n) (open-absent (getD depths k 0) (getD begins k 0) (q .1)) (λ u p l. ih .1 u p (omega arith)),
+    )
+
+open-none : (n k : ℕ) (depths begins : List ℕ) → ((u : ℕ) → getD depths u 0 ≡ 0) → firstOpenFrom n k Absent depths begins ≡ Absent
+unfolding firstOpenFrom
+open-none zero k depths begins h = refl
+open-none (suc n) k depths begins h = rw (h k) (open-none n (k + 1) depths begins h)
+
+-- A reducible recording is closed exactly if no begin is open at its end.
+module _ (guards ws : List ℕ) (r : Reducible guards ws) where
+  pub end-depth : (t : ℕ) → getD (endPoint guards ws .state .depths) t 0 ≡ getD (checkFrom 0 start ws .state .depths) t 0
+  end-depth t = ap (λ (x : State). getD (x .depths) t 0) (pass-end guards (reducible-pass guards ws r))
+
+  pub closed-open : firstOpen (endPoint guards ws) ≡ Absent → Closed ws
+  closed-open e t = by-test (ltb t 32)
+      (λ q. sym (end-depth t) ∙ none-open 32 0 Absent (endPoint guards ws .state .depths) (endPoint guards ws .judging .begins) e .1 t (omega arith) (omega (arith, ltb-true t 32 q)))
+      (λ q. let l : length (checkFrom 0 start ws .state .depths) ≡ 32 = pass-end-long guards (reducible-pass guards ws r) start-long in
+      List·getD-eq-default (checkFrom 0 start ws .state .depths) 0 (omega (arith, ltb-false t 32 q)))
+
+  pub open-closed : Closed ws → firstOpen (endPoint guards ws) ≡ Absent
+  open-closed c = open-none 32 0 (endPoint guards ws .state .depths) (endPoint guards ws .judging .begins) (λ u. end-depth u ∙ c u)
