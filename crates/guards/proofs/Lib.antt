@@ -1,3 +1,4 @@
--- Laws of guard lists that crates above cite.
+-- Laws of guard lists: reading them (Laws), which are accepted, and that line order has no meaning (Listed), the guard of each variable (Named).
 pub mod Laws
 pub mod Listed
+pub mod Named

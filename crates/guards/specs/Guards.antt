@@ -10,6 +10,7 @@ use Rattle.frame.specs.declared.Refusal.the-variants as refusal
 use Rattle.digits.specs.declared.Line.{Line}
 use Rattle.digits.specs.declared.Line.the-variants as line
 use Rattle.digits.specs.Digits.{lineOf}
+use Rattle.text.specs.Text.{wordAt}
 use Rattle.guards.specs.declared.Guard.{Guard}
 use Rattle.guards.specs.declared.Guard.the-variants.{Locked, Unprotected, Inferred}
 use Rattle.guards.specs.declared.GuardsReply.the-variants as reply
@@ -65,3 +66,8 @@ noGuards = replicate 1024 64
 -- What reading a guard list answers: its number of lines or its first refusal, and the code of each variable's guard.
 abbrev pub guardsRead : List ℕ → GuardsRead
 guardsRead s = guardsFrom 4096 s 0 noGuards
+
+-- "a variable not named is unprotected": the guard of variable x by the first n lines of a list, the lock of the line that names it.
+unfoldable pub listedGuard : List ℕ → ℕ → ℕ → Guard
+listedGuard s zero x = Unprotected
+listedGuard s (suc n) x = cond (eqb (guardVariable (wordAt s n)) x) (Locked (record { 0 = guardLock (wordAt s n) })) (listedGuard s n x)

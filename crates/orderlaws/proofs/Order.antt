@@ -113,7 +113,7 @@ order-decode guards ws r = from-decode (length ws) 0 (commits guards ws) ws (red
 frames-exchanged : (guards ws : List ℕ) → length guards ≡ 1024 → Reducible guards ws → Closed ws
     → Exchanges independent (framesOf ws) (framesOf (serialWords guards ws))
 frames-exchanged guards ws long r c =
-    let k = inferred-is-some-choice guards ws long .0 r in
+    let k = inferred-is-some-choice guards ws .0 r in
     let good : Good (choose guards (k .0)) begin 0 (framesOf ws) =
     subst (λ (x : Run). Good (choose guards (k .0)) x 0 (framesOf ws)) start-view
     (pass-good (choose guards (k .0)) (choice-declared guards (k .0) (k .1)) (reducible-pass (choose guards (k .0)) ws (k .2))) in

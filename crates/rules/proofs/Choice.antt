@@ -444,7 +444,7 @@ has-start locks c = record {
 -- "inferred finds a recording reducible exactly if some choice of one lock for each accessed variable does"
 pub inferred-is-some-choice : InferredIsSomeChoice
 unfolding startJudging
-inferred-is-some-choice guards ws long = (to, from)
+inferred-is-some-choice guards ws = (to, from)
   where
     to : Reducible guards ws → (locks : List ℕ) × Choice locks × Reducible (choose guards locks) ws
     to r =
@@ -470,11 +470,7 @@ inferred-is-some-choice guards ws long = (to, from)
         same-reply (judgement-pass guards fullSets ws sound)
         ∙ allows-pass guards locks c fullSets 0 start (startJudging fullSets) ws run (has-start locks c)
 
--- the guards of the inferred verdict are 1,024, and with a choice they are the chosen locks
-inferred-long : length inferredGuards ≡ 1024
-unfolding inferredGuards
-inferred-long = refl
-
+-- with a choice the guards of the inferred verdict are the chosen locks
 inferred-choose : (locks : List ℕ) → length locks ≡ 1024 → choose inferredGuards locks ≡ locks
 unfolding inferredGuards
 inferred-choose locks e = choose-all 1024 locks e
@@ -490,11 +486,11 @@ inferred-verdict-is-some-choice ws = (to, from)
   where
     to : inferredReply ws 1024 ≡ reducible → (locks : List ℕ) × Choice locks × Reducible locks ws
     to r =
-        let k = inferred-is-some-choice inferredGuards ws inferred-long .0 (sym (inferred-reply ws) ∙ r) in
+        let k = inferred-is-some-choice inferredGuards ws .0 (sym (inferred-reply ws) ∙ r) in
         (k .0, k .1, subst (λ (g : List ℕ). Reducible g ws) (inferred-choose (k .0) (k .1 .long)) (k .2))
 
     from : (locks : List ℕ) × Choice locks × Reducible locks ws → inferredReply ws 1024 ≡ reducible
     from (locks, c, r) =
         inferred-reply ws
-        ∙ inferred-is-some-choice inferredGuards ws inferred-long .1
+        ∙ inferred-is-some-choice inferredGuards ws .1
         (locks, c, subst (λ (g : List ℕ). Reducible g ws) (sym (inferred-choose locks (c .long))) r)

@@ -1,16 +1,17 @@
 -- The verdict on a sound recording is that of the rules of the paper's figures. In this order: the rules as a function, so that a frame steps
--- to one store or goes wrong by one kind; recordings by that function; the pass and the rules; the claim.
-use Prim.Native.Nat.{ℕ, suc, _+_}
+-- to one store or goes wrong by one kind; recordings by that function; the pass and the rules, with the claim of any guards; guards that agree
+-- on the variables of frames, with the claims of declared and of inferred guards.
+use Prim.Native.Nat.{ℕ, suc, _+_, _≤_, _<_}
 use mathlib.Core.Path.{_≡_, refl, sym, ap, _∙_, fun-ext}
 use mathlib.Core.Bool.{cond}
 use mathlib.Core.Logic.{_↔_}
 use mathlib.Core.List.{List, [], _∷_}
 use native.Mathlib.Omega.{arith}
 use native.Mathlib.Nat.{zero-add}
-use borrow.Author.Tests.{eq-eqb, ne-eqb}
+use borrow.Author.Tests.{eq-eqb, ne-eqb, le-ltb}
 use lib.Dec.{eqb}
-use lib.ListN.{getD, length-replicate}
-use Rattle.frame.specs.Frame.{decodeWord}
+use lib.ListN.{getD, length-replicate, getD-replicate}
+use Rattle.frame.specs.Frame.{ObjectInRange, decodeWord}
 use Rattle.frame.proofs.Laws.{decoded-in-range}
 use Rattle.frame.specs.declared.Variable.{Variable}
 use Rattle.frame.specs.declared.Action.{Action}
@@ -18,20 +19,27 @@ use Rattle.frame.specs.declared.Action.the-variants as action
 use Rattle.frame.specs.declared.Frame.{Frame}
 use Rattle.frame.specs.declared.Decoded.{Decoded}
 use Rattle.frame.specs.declared.Decoded.the-variants as decoded
+use Rattle.guards.specs.Guards.{guardOf, guardsRead, listedGuard}
+use Rattle.guards.proofs.Named.{listed-guard}
 use Rattle.guards.specs.declared.Guard.{Guard}
 use Rattle.guards.specs.declared.Guard.the-variants.{Locked, Unprotected, Inferred}
-use Rattle.soundness.specs.Soundness.{State, stepFrame, checkFrom, checkReply, start}
+use Rattle.guards.specs.declared.GuardsReply.the-variants as guards-reply
+use Rattle.soundness.specs.Soundness.{State, checkFrom, checkReply, start}
 use Rattle.soundness.specs.declared.CheckReply.the-variants as check
 use Rattle.soundness.proofs.Laws.{check-short, sound-fits, First, sound-first}
 use Rattle.reply.specs.Reply.{reducible, violated}
 use Rattle.reply.specs.declared.Kind.{Kind}
 use Rattle.reply.specs.declared.Kind.the-variants.{GuardNotHeld, UnprotectedAfterCommit, AcquireAfterCommit, SetEmptied}
+use Rattle.reply.specs.declared.Reply.{Reply}
+use Rattle.reply.specs.declared.Reply.the-variants as reply
 use Rattle.reply.specs.declared.Violation.{Violation}
 use Rattle.instrumented.specs.Rules.{Judging}
 use Rattle.pass.specs.Pass.{Ended, allLocks, fullSets, judgeFrame, judgeFrom, startJudging, judgement}
-use Rattle.rules.specs.Figures.{Stage, Outside, PreCommit, PostCommit, Store, putStage, putLocks, owner, depth, shared, Accesses, reads, writes, Steps, ins-access-protected, ins-race-commit, ins-race-outside, ins-acquire, ins-release-commit, ins-release-outside, ins-enter, ins-nested-enter, ins-exit, ins-nested-exit, ins2-access, Wrong, wrong-access-protected, wrong-race-violate, wrong-acquire, wrong2-race, AllStep, end, step, WrongAt, here, later, startStore, guarding, VerdictIsOfTheRules}
+use Rattle.verdict.specs.Verdict.{declaredReply, inferredGuards, withTable, inferredReply}
+use Rattle.rules.specs.Figures.{Acts, Stage, Outside, PreCommit, PostCommit, Store, putStage, putLocks, owner, depth, shared, Accesses, reads, writes, Steps, ins-access-protected, ins-race-commit, ins-race-outside, ins-acquire, ins-release-commit, ins-release-outside, ins-enter, ins-nested-enter, ins-exit, ins-nested-exit, ins2-access, Wrong, wrong-access-protected, wrong-race-violate, wrong-acquire, wrong2-race, AllStep, end, step, WrongAt, here, later, startStore, guarding, OfTheRules, VerdictIsOfTheRules, DeclaredIsOfTheRules, InferredIsOfTheRules}
 use Rattle.frame.proofs.Shared.{never, getD-filled}
 use Rattle.pass.proofs.Judgement.{judgement-pass}
+use Rattle.rules.proofs.Acts.{acted, acts-to, passes-acts}
 use Rattle.rules.proofs.Store.{storeOf, Sized, Told, goes, wrong, frame-told}
 
 -- What the rules make of an operation.
@@ -129,18 +137,22 @@ module _ (P : ℕ → Guard) where
   -- the answer from a state and a store on
   unfoldable answer : State → Store → List ℕ → Answer
   answer s φ [] = fine
-  answer s φ (w ∷ ws) = onFrame (decodeWord w) λ f. onResult (rule P s φ (f .thread .0) (f .action)) λ φ′. answer (stepFrame f s .state) φ′ ws
+  answer s φ (w ∷ ws) = onFrame (decodeWord w) λ f. onResult (rule P s φ (f .thread .0) (f .action)) λ φ′. answer (acted (f .thread .0) (f .action) s) φ′ ws
+
+  -- the answer from where a frame leads to
+  from : {s n : State} {t : ℕ} {a : Action} → Acts s t a n → (φ : Store) (ws : List ℕ) → answer (acted t a s) φ ws ≡ answer n φ ws
+  from e φ ws = ap (λ (n : State). answer n φ ws) (sym (acts-to e))
 
   -- a recording that steps, or goes wrong at a frame, does so by the function
   all-answer : {s : State} {φ : Store} {ws : List ℕ} → AllStep P s φ ws → answer s φ ws ≡ fine
   unfolding answer
   all-answer end = refl
-  all-answer (step {s = s} {φ = φ} {f = f} d e r rest) = rw (d, steps-rule P s φ (f .thread .0) r, e) (ap onward (all-answer rest))
+  all-answer (step {s = s} {φ = φ} {φ′ = φ′} {ws = ws} {f = f} d e r rest) = rw (d, steps-rule P s φ (f .thread .0) r) (ap onward (from e φ′ ws ∙ all-answer rest))
 
   wrong-answer : {s : State} {φ : Store} {ws : List ℕ} {i : ℕ} {k : Kind} → WrongAt P s φ ws i k → answer s φ ws ≡ first i k
   unfolding answer
-  wrong-answer (here {s = s} {φ = φ} {f = f} d r) = rw (d, wrong-rule P s φ (f .thread .0) r)
-  wrong-answer (later {s = s} {φ = φ} {f = f} d e r rest) = rw (d, steps-rule P s φ (f .thread .0) r, e) (ap onward (wrong-answer rest))
+  wrong-answer (here {s = s} {φ = φ} {f = f} d e r) = rw (d, wrong-rule P s φ (f .thread .0) r)
+  wrong-answer (later {s = s} {φ = φ} {φ′ = φ′} {ws = ws} {f = f} d e r rest) = rw (d, steps-rule P s φ (f .thread .0) r) (ap onward (from e φ′ ws ∙ wrong-answer rest))
 
 -- How a pass over sound frames ends, with what the rules say of them.
 data Ends (guards : List ℕ) (i : ℕ) (s : State) (j : Judging) (ws : List ℕ) : Type 0 where
@@ -154,18 +166,21 @@ unfolding judgeFrom
 ends guards i s j [] c z = all refl end
 ends guards i s j (w ∷ ws) c z =
     let q = sound-first i s w ws c in
-    told-case q (λ k. ends guards (i + 1) (q .next) k ws (q .rest)) (frame-told guards s (q .next) j i (q .frame) z (decoded-in-range w (q .frame) (q .is)) (q .passes))
+    told-case q (λ k. ends guards (i + 1) (q .next) k ws (q .rest)) (frame-told guards s (q .next) j i (q .frame) z (decoded-in-range w (q .frame) (q .is)) (acts q))
   where
+    acts : (q : First i s w ws) → Acts s (q .frame .thread .0) (q .frame .action) (q .next)
+    acts q = passes-acts (q .frame) s (q .next) (q .passes) .0
+
     rest-case : (q : First i s w ws) (k : Judging) → judgeFrom guards i s j (w ∷ ws) ≡ judgeFrom guards (i + 1) (q .next) k ws
         → Steps (guarding guards) s (storeOf (s .depths) j) (q .frame .thread .0) (q .frame .action) (storeOf (q .next .depths) k)
         → Ends guards (i + 1) (q .next) k ws → Ends guards i s j (w ∷ ws)
-    rest-case q k on r (all e x) = all (ap (λ (y : Ended). y .reply) on ∙ e) (step (q .is) (q .passes) r x)
-    rest-case q k on r (some m v e p x) = some (suc m) v (ap (λ (y : Ended). y .reply) on ∙ e) (omega arith) (later (q .is) (q .passes) r x)
+    rest-case q k on r (all e x) = all (ap (λ (y : Ended). y .reply) on ∙ e) (step (q .is) (acts q) r x)
+    rest-case q k on r (some m v e p x) = some (suc m) v (ap (λ (y : Ended). y .reply) on ∙ e) (omega arith) (later (q .is) (acts q) r x)
 
     told-case : (q : First i s w ws) → ((k : Judging) → Sized (q .next .depths) k → Ends guards (i + 1) (q .next) k ws)
         → Told (guarding guards) s (q .next .depths) j i (q .frame .thread .0) (q .frame .action) (judgeFrame guards i (q .frame) s j) → Ends guards i s j (w ∷ ws)
     told-case q ih (goes {k = k} a r y) = rest-case q k (rw (q .is, q .passes, a)) r (ih k y)
-    told-case q ih (wrong {v = v} a p r) = some 0 v (rw (q .is, q .passes, a)) (omega arith) (here (q .is) r)
+    told-case q ih (wrong {v = v} a p r) = some 0 v (rw (q .is, q .passes, a)) (omega arith) (here (q .is) (acts q) r)
 
 -- the lists, the sizes and the store at the start
 start-sized : Sized (start .depths) (startJudging fullSets)
@@ -213,3 +228,78 @@ verdict-is-of-the-rules guards ws sound = (reducible-case (start-ends guards ws 
           let a : m ≡ i = cc in
           (v, judged-reply guards ws sound ∙ q, p ∙ zero-add m ∙ a, cc),
     )
+
+-- Two ways of giving guards that agree on every variable of a frame.
+module _ (P Q : ℕ → Guard) (same : (x : ℕ) → x < 1024 → P x ≡ Q x) where
+  -- the guard of a variable that is accessed
+  same-guard : {a : Action} {x : Variable} {g : Guard} → ObjectInRange a → Accesses a x → P (x .0) ≡ g → Q (x .0) ≡ g
+  same-guard {x = x} h reads e = sym (same (x .0) h) ∙ e
+  same-guard {x = x} h writes e = sym (same (x .0) h) ∙ e
+
+  module _ {s : State} {φ : Store} {t : ℕ} where
+    same-steps : {a : Action} {φ′ : Store} → ObjectInRange a → Steps P s φ t a φ′ → Steps Q s φ t a φ′
+    same-steps h (ins-access-protected c g o) = ins-access-protected c (same-guard h c g) o
+    same-steps h (ins-race-commit c g e) = ins-race-commit c (same-guard h c g) e
+    same-steps h (ins-race-outside c g e) = ins-race-outside c (same-guard h c g) e
+    same-steps h (ins-acquire n) = ins-acquire n
+    same-steps h (ins-release-commit n) = ins-release-commit n
+    same-steps h (ins-release-outside e) = ins-release-outside e
+    same-steps h (ins-enter e) = ins-enter e
+    same-steps h (ins-nested-enter l) = ins-nested-enter l
+    same-steps h (ins-exit e) = ins-exit e
+    same-steps h (ins-nested-exit l) = ins-nested-exit l
+    same-steps h (ins2-access c g n) = ins2-access c (same-guard h c g) n
+
+    same-wrong : {a : Action} {k : Kind} → ObjectInRange a → Wrong P s φ t a k → Wrong Q s φ t a k
+    same-wrong h (wrong-access-protected c g o) = wrong-access-protected c (same-guard h c g) o
+    same-wrong h (wrong-race-violate c g e) = wrong-race-violate c (same-guard h c g) e
+    same-wrong h (wrong-acquire e) = wrong-acquire e
+    same-wrong h (wrong2-race c g e) = wrong2-race c (same-guard h c g) e
+
+  -- a recording steps, or goes wrong, with both
+  same-all : {s : State} {φ : Store} {ws : List ℕ} → AllStep P s φ ws → AllStep Q s φ ws
+  same-all end = end
+  same-all (step {w = w} {f = f} d e r rest) = step d e (same-steps (decoded-in-range w f d .object) r) (same-all rest)
+
+  same-at : {s : State} {φ : Store} {ws : List ℕ} {i : ℕ} {k : Kind} → WrongAt P s φ ws i k → WrongAt Q s φ ws i k
+  same-at (here {w = w} {f = f} d e r) = here d e (same-wrong (decoded-in-range w f d .object) r)
+  same-at (later {w = w} {f = f} d e r rest) = later d e (same-steps (decoded-in-range w f d .object) r) (same-at rest)
+
+-- so a reply that is of the rules with the one is with the other
+with-same : (P Q : ℕ → Guard) → ((x : ℕ) → x < 1024 → P x ≡ Q x) → (ws : List ℕ) (r : Reply) → OfTheRules P ws r → OfTheRules Q ws r
+with-same P Q same ws r (a, b) = (
+  (λ e. same-all P Q same (a .0 e), λ y. a .1 (same-all Q P back y)),
+  λ i k. (λ e. same-at P Q same (b i k .0 e), λ y. b i k .1 (same-at Q P back y)),
+)
+  where
+    back : (x : ℕ) → x < 1024 → Q x ≡ P x
+    back x h = sym (same x h)
+
+-- an accepted list, and a table with room, leave the judgement's reply
+accepted : (list ws : List ℕ) (n : ℕ) → guardsRead list .reply ≡ guards-reply.Lines n → declaredReply list ws ≡ judgement (guardsRead list .table) fullSets ws .reply
+unfolding declaredReply
+accepted list ws n e = rw e
+
+with-room : (ws : List ℕ) (m : ℕ) → 1024 ≤ m → inferredReply ws m ≡ judgement inferredGuards fullSets ws .reply
+unfolding inferredReply
+with-room ws m h = go (judgement inferredGuards fullSets ws .reply)
+  where
+    go : (r : Reply) → withTable r m ≡ r
+    go (reply.Refused x) = refl
+    go (reply.Judged v) = rw (le-ltb m 1024 h)
+
+-- the guards of the inferred verdict
+all-inferred : (x : ℕ) → x < 1024 → guarding inferredGuards x ≡ Inferred
+unfolding inferredGuards
+all-inferred x h = ap guardOf (getD-replicate 1024 x 65 0 h)
+
+-- The same of the guards that the lines of a list name.
+pub declared-is-of-the-rules : DeclaredIsOfTheRules
+declared-is-of-the-rules list ws n e sound =
+    rw (accepted list ws n e)
+    (with-same (guarding (guardsRead list .table)) (listedGuard list n) (λ x h. sym (listed-guard list n e x h)) ws _ (verdict-is-of-the-rules (guardsRead list .table) ws sound))
+
+-- The same of guards that are all inferred.
+pub inferred-is-of-the-rules : InferredIsOfTheRules
+inferred-is-of-the-rules ws m sound room =
+    rw (with-room ws m room) (with-same (guarding inferredGuards) (λ x. Inferred) all-inferred ws _ (verdict-is-of-the-rules inferredGuards ws sound))

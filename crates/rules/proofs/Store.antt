@@ -1,5 +1,5 @@
 -- The paper's store in the state of the pass, and one frame: what the pass makes of it is what the rules say of it.
--- In this order: the locks held, the store of a state, how it changes, the state after a frame, one frame.
+-- In this order: the locks held, the store of a state, how it changes, one frame.
 use Prim.Native.Nat.{ℕ, zero, suc, _+_, _-_, _*_, _/_, _%_, _<_}
 use mathlib.Core.Path.{_≡_, refl, sym, ap, _∙_, fun-ext}
 use mathlib.Core.Bool.{Bool, true, false, cond}
@@ -8,7 +8,7 @@ use native.Mathlib.Omega.{arith}
 use native.Mathlib.Decide.{ℕ-discrete}
 use borrow.Author.Tests.{eqb-true, eqb-false, eq-eqb, ne-eqb}
 use lib.Bits.{bitAnd}
-use lib.Dec.{eqb, leb}
+use lib.Dec.{eqb}
 use lib.ListN.{length, getD, set, length-set}
 use lib.Seq.{getD-set-same, getD-set-other, set-getD}
 use Rattle.frame.specs.Frame.{ObjectInRange, InRange}
@@ -23,18 +23,17 @@ use Rattle.guards.specs.declared.Guard.{Guard}
 use Rattle.guards.specs.declared.Guard.the-variants as guard
 use Rattle.reply.specs.declared.Violation.{Violation}
 use Rattle.reply.specs.declared.Verdict.the-variants as verdict
-use Rattle.soundness.specs.Soundness.{State, Stepped, stepped, stepAction, stepFrame}
-use Rattle.soundness.specs.declared.Outcome.the-variants as outcome
+use Rattle.soundness.specs.Soundness.{State}
 use Rattle.instrumented.specs.Rules.{Judging, judgingOf, Judged, judged, phaseAt, contains, committed, withCommit, acquireIn, unprotectedIn, judgeOperation}
 use Rattle.operation.specs.Operation.{guardedAccess, operationOf}
 use Rattle.instrumented.specs.Held.{heldSet}
 use Rattle.operation.specs.declared.Operation.the-variants.{Protected, Inferred, Begin, End}
 use Rattle.pass.specs.Pass.{judgeFrame}
 use Rattle.frame.proofs.Shared.{never}
-use Rattle.soundness.proofs.Laws.{passed, spared}
 use Rattle.judge.proofs.Held.{mine, mine-other}
 use Rattle.rules.proofs.Bits.{bit, bit-zero, bit-suc, none-in}
-use Rattle.rules.specs.Figures.{Stage, Outside, PreCommit, PostCommit, Store, putStage, putLocks, Accesses, reads, writes, Steps, ins-access-protected, ins-race-commit, ins-race-outside, ins-acquire, ins-release-commit, ins-release-outside, ins-enter, ins-nested-enter, ins-exit, ins-nested-exit, ins2-access, Wrong, wrong-access-protected, wrong-race-violate, wrong-acquire, wrong2-race, guarding}
+use Rattle.rules.proofs.Acts.{acted, acts-to}
+use Rattle.rules.specs.Figures.{Acts, act-other-end, Stage, Outside, PreCommit, PostCommit, Store, putStage, putLocks, Accesses, reads, writes, Steps, ins-access-protected, ins-race-commit, ins-race-outside, ins-acquire, ins-release-commit, ins-release-outside, ins-enter, ins-nested-enter, ins-exit, ins-nested-exit, ins2-access, Wrong, wrong-access-protected, wrong-race-violate, wrong-acquire, wrong2-race, guarding}
 
 -- the lowest bit of a held set, and the others
 held-low : (b : Bool) (h : ℕ) → (cond b 1 0 + 2 * h) % 2 ≡ cond b 1 0
@@ -122,33 +121,9 @@ module _ (depths : List ℕ) (j : Judging) (z : Sized depths j) where
         ap (λ (l : List ℕ). storeOf l (judgingOf (j .begins) (set (j .commits) t c) (j .sets))) (sym (set-getD depths t 0))
         ∙ moved (j .begins) (getD depths t 0) c
 
--- The depths after a frame that is sound.
-abbrev depthsAfter : ℕ → Action → State → List ℕ
-depthsAfter t (action.Acquire l) s = s .depths
-depthsAfter t (action.Release l) s = s .depths
-depthsAfter t (action.Read v) s = s .depths
-depthsAfter t (action.Write v) s = s .depths
-depthsAfter t action.Begin s = set (s .depths) t (getD (s .depths) t 0 + 1)
-depthsAfter t action.End s = set (s .depths) t (getD (s .depths) t 0 - 1)
-
-same-depths : {m n : State} → n ≡ m → n .depths ≡ m .depths
-same-depths e = ap (λ (x : State). x .depths) e
-
-module _ (t : ℕ) (s n : State) where
-  -- the depths that a sound frame leads to
-  depths-after : (a : Action) → stepAction t a s ≡ stepped outcome.Next n → n .depths ≡ depthsAfter t a s
-  unfolding stepAction
-  depths-after (action.Acquire l) e = same-depths (passed (eqb (getD (s .owners) (l .0) 0) 0) _ s _ n e .1)
-  depths-after (action.Release l) e = same-depths (passed (eqb (getD (s .owners) (l .0) 0) (t + 1)) _ s _ n e .1)
-  depths-after (action.Read v) e = same-depths (sym (ap (λ (x : Stepped). x .state) e))
-  depths-after (action.Write v) e = same-depths (sym (ap (λ (x : Stepped). x .state) e))
-  depths-after action.Begin e = same-depths (spared (leb 15 (getD (s .depths) t 0)) _ s _ n e .1)
-  depths-after action.End e = same-depths (spared (eqb (getD (s .depths) t 0) 0) _ s _ n e .1)
-
-  -- an end that is sound ends a block
-  open-before : stepAction t action.End s ≡ stepped outcome.Next n → getD (s .depths) t 0 ≡ 0 → ⊥
-  unfolding stepAction
-  open-before e = eqb-false _ _ (spared (eqb (getD (s .depths) t 0) 0) _ s _ n e .0)
+-- an end that has a step ends a block
+open-before : {s n : State} {t : ℕ} → Acts s t action.End n → getD (s .depths) t 0 ≡ 0 → ⊥
+open-before (act-other-end h) e = omega arith
 
 -- What the pass makes of a frame, x: it goes on in the state whose store the rules give, or it names the kind of the rule that goes wrong.
 pub data Told (P : ℕ → Guard) (s : State) (depths : List ℕ) (j : Judging) (i t : ℕ) (a : Action) (x : Judged) : Type 0 where
@@ -264,7 +239,7 @@ module _ (guards : List ℕ) (s : State) (j : Judging) (z : Sized (s .depths) j)
 
   -- a begin, outermost or nested
   begin-told : (h : ℕ) (b : Bool) → eqb (depthOf s t) 0 ≡ b
-      → Told (guarding guards) s (depthsAfter (t .0) action.Begin s) j i (t .0) action.Begin (judgeOperation i t (depthOf s t) h Begin j)
+      → Told (guarding guards) s (acted (t .0) action.Begin s .depths) j i (t .0) action.Begin (judgeOperation i t (depthOf s t) h Begin j)
   unfolding judgeOperation
   begin-told h true e =
       let r = moved (s .depths) j z (t .0) small (set (j .begins) (t .0) i) (depthOf s t + 1) 0 in
@@ -282,7 +257,7 @@ module _ (guards : List ℕ) (s : State) (j : Judging) (z : Sized (s .depths) j)
 
   -- an end, outermost or nested
   end-told : (h : ℕ) → (depthOf s t ≡ 0 → ⊥) → Dec (depthOf s t ≡ 1)
-      → Told (guarding guards) s (depthsAfter (t .0) action.End s) j i (t .0) action.End (judgeOperation i t (depthOf s t) h End j)
+      → Told (guarding guards) s (acted (t .0) action.End s .depths) j i (t .0) action.End (judgeOperation i t (depthOf s t) h End j)
   unfolding judgeOperation
   end-told h p (yes e) =
       let r = deepened (s .depths) j z (t .0) small (depthOf s t - 1) in
@@ -293,19 +268,19 @@ module _ (guards : List ℕ) (s : State) (j : Judging) (z : Sized (s .depths) j)
       let q = stays (storeOf (s .depths) j) (t .0) _ (stage-deep (depthOf s t) (depthOf s t - 1) (commitOf j t) p (omega arith)) in
       goes refl (rw (r ∙ q) (ins-nested-exit (omega arith))) (deepened-sized _)
 
-  -- any action of a frame that is sound
-  action-told : (n : State) (a : Action) → ObjectInRange a → stepAction (t .0) a s ≡ stepped outcome.Next n
-      → Told (guarding guards) s (depthsAfter (t .0) a s) j i (t .0) a (judgeOperation i t (depthOf s t) (heldSet (t .0) (s .owners)) (operationOf guards a) j)
+  -- any action that has a step
+  action-told : (n : State) (a : Action) → ObjectInRange a → Acts s (t .0) a n
+      → Told (guarding guards) s (acted (t .0) a s .depths) j i (t .0) a (judgeOperation i t (depthOf s t) (heldSet (t .0) (s .owners)) (operationOf guards a) j)
   unfolding judgeOperation
   action-told n (action.Acquire l) h e = acquire-told l (eqb (depthOf s t) 0) refl (eqb (commitOf j t) 0) refl
   action-told n (action.Release l) h e = release-told l (eqb (depthOf s t) 0) refl
   action-told n (action.Read x) h e = access-told x reads h (guardOf (getD guards (x .0) 0)) refl
   action-told n (action.Write x) h e = access-told x writes h (guardOf (getD guards (x .0) 0)) refl
   action-told n action.Begin h e = begin-told (heldSet (t .0) (s .owners)) (eqb (depthOf s t) 0) refl
-  action-told n action.End h e = end-told (heldSet (t .0) (s .owners)) (open-before (t .0) s n e) (ℕ-discrete (depthOf s t) 1)
+  action-told n action.End h e = end-told (heldSet (t .0) (s .owners)) (open-before e) (ℕ-discrete (depthOf s t) 1)
 
--- The pass makes of a sound frame what the rules say of it.
-pub frame-told : (guards : List ℕ) (s n : State) (j : Judging) (i : ℕ) (f : Frame) → Sized (s .depths) j → InRange f → stepFrame f s ≡ stepped outcome.Next n
+-- The pass makes of a frame that has a step what the rules say of it.
+pub frame-told : (guards : List ℕ) (s n : State) (j : Judging) (i : ℕ) (f : Frame) → Sized (s .depths) j → InRange f → Acts s (f .thread .0) (f .action) n
     → Told (guarding guards) s (n .depths) j i (f .thread .0) (f .action) (judgeFrame guards i f s j)
 frame-told guards s n j i f z r e =
-    rw (depths-after (f .thread .0) s n (f .action) e) (action-told guards s j z i (f .thread) (r .thread) n (f .action) (r .object) e)
+    rw (acts-to e) (action-told guards s j z i (f .thread) (r .thread) n (f .action) (r .object) e)

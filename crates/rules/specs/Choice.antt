@@ -28,7 +28,7 @@ choose (c ∷ guards) locks = cond (ltb 64 c) (getD locks 0 0) c ∷ choose guar
 -- Term 2's second sentence, over whole recordings, both directions.
 abbrev pub InferredIsSomeChoice : Type 0
 InferredIsSomeChoice =
-    (guards ws : List ℕ) → length guards ≡ 1024
+    (guards ws : List ℕ)
     → (Reducible guards ws ↔ (locks : List ℕ) × Choice locks × Reducible (choose guards locks) ws)
 
 -- The same for the inferred verdict, where every guard is inferred and the chosen locks are the declared guards.

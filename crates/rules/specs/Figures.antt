@@ -1,15 +1,15 @@
--- The rules of the paper's figures 8 and 11 as a relation, one constructor for each rule, named as there, and what they say of a whole
--- recording. The rules of figure 11 that are those of figure 8 over again ([INS2 ACQUIRE], [INS2 RELEASE COMMIT], ..) are stated once;
--- figure 8's accesses are of variables whose guard is declared, figure 11's of those whose guard is inferred. [INS NO-OP] is no frame.
--- In this order: the stores, the steps, going wrong, recordings, the claim.
-use Prim.Native.Nat.{ℕ, suc, _+_, _<_}
+-- The rules of the paper's figures 4, 8 and 11 as relations, one constructor for each rule, named as there, and what they say of frames and of
+-- whole recordings. The rules of figure 11 that are those of figure 8 over again ([INS2 ACQUIRE], [INS2 RELEASE COMMIT], ..) are stated once;
+-- figure 8's accesses are of variables whose guard is declared, figure 11's of those whose guard is inferred. The empty operation is no frame.
+-- In this order: figure 4 and the claim of sound frames, the stores, figures 8 and 11, recordings, the claims of the verdicts.
+use Prim.Native.Nat.{ℕ, suc, _+_, _-_, _≤_, _<_}
 use mathlib.Core.Path.{_≡_}
 use mathlib.Core.Bool.{cond}
 use mathlib.Core.Logic.{_↔_}
 use mathlib.Core.List.{List, [], _∷_}
 use lib.Bits.{bitAnd}
 use lib.Dec.{eqb}
-use lib.ListN.{getD}
+use lib.ListN.{getD, set}
 use Rattle.frame.specs.Frame.{decodeWord}
 use Rattle.frame.specs.declared.Lock.{Lock}
 use Rattle.frame.specs.declared.Variable.{Variable}
@@ -17,18 +17,64 @@ use Rattle.frame.specs.declared.Action.{Action}
 use Rattle.frame.specs.declared.Action.the-variants as action
 use Rattle.frame.specs.declared.Frame.{Frame}
 use Rattle.frame.specs.declared.Decoded.the-variants as decoded
-use Rattle.guards.specs.Guards.{guardOf}
+use Rattle.frame.specs.declared.Refusal.the-variants as refusal
+use Rattle.guards.specs.Guards.{guardOf, guardsRead, listedGuard}
 use Rattle.guards.specs.declared.Guard.{Guard}
 use Rattle.guards.specs.declared.Guard.the-variants.{Locked, Unprotected, Inferred}
-use Rattle.soundness.specs.Soundness.{State, stepped, stepFrame, checkReply, start}
+use Rattle.guards.specs.declared.GuardsReply.the-variants as guards-reply
+use Rattle.soundness.specs.Soundness.{State, stateOf, stepped, stepFrame, checkReply, start}
 use Rattle.soundness.specs.declared.Outcome.the-variants as outcome
 use Rattle.soundness.specs.declared.CheckReply.the-variants as check
 use Rattle.reply.specs.Reply.{reducible, violated}
 use Rattle.reply.specs.declared.Kind.{Kind}
 use Rattle.reply.specs.declared.Kind.the-variants.{GuardNotHeld, UnprotectedAfterCommit, AcquireAfterCommit, SetEmptied}
+use Rattle.reply.specs.declared.Reply.{Reply}
 use Rattle.reply.specs.declared.Violation.{Violation}
 use Rattle.instrumented.specs.Held.{heldSet}
 use Rattle.pass.specs.Pass.{fullSets, judgement}
+use Rattle.verdict.specs.Verdict.{declaredReply, inferredReply}
+
+-- An operation of thread t leads to the state n: figure 4's rules on the owner of each lock, 0 for none and else a thread plus 1 (σ), and on the
+-- depth of each thread (A(Π(t))). A recording has no values, so a read has no premise and a write no effect.
+module _ (s : State) (t : ℕ) where
+  pub data Acts : Action → State → Type 0 where
+    -- [ACT READ], without σ(x) = v
+    act-read : {x : Variable} → Acts (action.Read x) s
+    -- [ACT WRITE], without x := v
+    act-write : {x : Variable} → Acts (action.Write x) s
+    -- [ACT ACQUIRE]
+    act-acquire : {m : Lock} → getD (s .owners) (m .0) 0 ≡ 0 → Acts (action.Acquire m) (stateOf (set (s .owners) (m .0) (t + 1)) (s .depths))
+    -- [ACT RELEASE]
+    act-release : {m : Lock} → getD (s .owners) (m .0) 0 ≡ t + 1 → Acts (action.Release m) (stateOf (set (s .owners) (m .0) 0) (s .depths))
+    -- [ACT OTHER], and "if T(t, π, begin, π′) then A(π′) = A(π) + 1" of section 2.2
+    act-other-begin : Acts action.Begin (stateOf (s .owners) (set (s .depths) t (getD (s .depths) t 0 + 1)))
+    -- [ACT OTHER], and "if T(t, π, end, π′), then A(π) > 0 and A(π′) = A(π) - 1"
+    act-other-end : 0 < getD (s .depths) t 0 → Acts action.End (stateOf (s .owners) (set (s .depths) t (getD (s .depths) t 0 - 1)))
+
+-- Document 01's own limit, which the figures do not have: "9: begin inside 15 open blocks of this thread".
+abbrev pub BelowLimit : Action → ℕ → Type 0
+BelowLimit (action.Acquire m) d = Unit {0}
+BelowLimit (action.Release m) d = Unit {0}
+BelowLimit (action.Read x) d = Unit {0}
+BelowLimit (action.Write x) d = Unit {0}
+BelowLimit action.Begin d = d < 15
+BelowLimit action.End d = Unit {0}
+
+-- Figure 4 has no step for the frame.
+abbrev pub NoStep : Frame → State → Type 0
+NoStep f s = (n : State) → Acts s (f .thread .0) (f .action) n → ⊥
+
+-- A frame passes in sequence exactly if figure 4 has a step for it and it is below the limit, and leads where that step leads. It is refused
+-- by 7, 8 and 10 exactly if it is an acquire, a release and an end for which figure 4 has no step, and by 9 exactly if it is a begin inside 15
+-- open blocks.
+abbrev pub SoundnessIsOfTheRules : Type 0
+SoundnessIsOfTheRules =
+    (f : Frame) (s : State)
+    → ((n : State) → stepFrame f s ≡ stepped outcome.Next n ↔ (Acts s (f .thread .0) (f .action) n × BelowLimit (f .action) (getD (s .depths) (f .thread .0) 0)))
+    × (stepFrame f s .outcome ≡ outcome.Bad refusal.LockTaken ↔ ((m : Lock) × (f .action ≡ action.Acquire m) × NoStep f s))
+    × (stepFrame f s .outcome ≡ outcome.Bad refusal.LockNotHeld ↔ ((m : Lock) × (f .action ≡ action.Release m) × NoStep f s))
+    × (stepFrame f s .outcome ≡ outcome.Bad refusal.TooDeep ↔ ((f .action ≡ action.Begin) × (15 ≤ getD (s .depths) (f .thread .0) 0)))
+    × (stepFrame f s .outcome ≡ outcome.Bad refusal.NoOpenBlock ↔ ((f .action ≡ action.End) × NoStep f s))
 
 -- The paper's instrumentation store φ: the phase of each thread, and the candidate lock set of each variable.
 pub data Stage : Type 0 where
@@ -50,8 +96,7 @@ pub data Accesses : Action → Variable → Type 0 where
   reads : {x : Variable} → Accesses (action.Read x) x
   writes : {x : Variable} → Accesses (action.Write x) x
 
--- P gives each variable's guard: a lock (P(x) defined), unprotected (undefined), or inferred. The state s has the owner of each lock, 0 for
--- none and else a thread plus 1 (σ), and the depth of each thread (A(Π(t))); heldSet t is H(t, σ).
+-- P gives each variable's guard: a lock (P(x) defined), unprotected (undefined), or inferred. heldSet t is H(t, σ).
 module _ (P : ℕ → Guard) (s : State) (φ : Store) (t : ℕ) where
   abbrev pub owner : Lock → ℕ
   owner m = getD (s .owners) (m .0) 0
@@ -84,17 +129,17 @@ module _ (P : ℕ → Guard) (s : State) (φ : Store) (t : ℕ) where
     wrong2-race : {a : Action} {x : Variable} → Accesses a x → P (x .0) ≡ Inferred → shared x ≡ 0 → Wrong a SetEmptied
 
 module _ (P : ℕ → Guard) where
-  -- All frames of a recording step.
+  -- All frames of a recording step: [INS STEP T] of figure 9.
   pub data AllStep : State → Store → List ℕ → Type 0 where
     end : {s : State} {φ : Store} → AllStep s φ []
-    step : {s n : State} {φ φ′ : Store} {w : ℕ} {ws : List ℕ} {f : Frame} → decodeWord w ≡ decoded.Frame f → stepFrame f s ≡ stepped outcome.Next n
+    step : {s n : State} {φ φ′ : Store} {w : ℕ} {ws : List ℕ} {f : Frame} → decodeWord w ≡ decoded.Frame f → Acts s (f .thread .0) (f .action) n
         → Steps P s φ (f .thread .0) (f .action) φ′ → AllStep n φ′ ws → AllStep s φ (w ∷ ws)
 
-  -- The first i frames of a recording step, and frame i goes wrong.
+  -- The first i frames of a recording step, and frame i goes wrong: [INS WRONG] of figure 9.
   pub data WrongAt : State → Store → List ℕ → ℕ → Kind → Type 0 where
-    here : {s : State} {φ : Store} {w : ℕ} {ws : List ℕ} {f : Frame} {k : Kind} → decodeWord w ≡ decoded.Frame f
+    here : {s n : State} {φ : Store} {w : ℕ} {ws : List ℕ} {f : Frame} {k : Kind} → decodeWord w ≡ decoded.Frame f → Acts s (f .thread .0) (f .action) n
         → Wrong P s φ (f .thread .0) (f .action) k → WrongAt s φ (w ∷ ws) 0 k
-    later : {s n : State} {φ φ′ : Store} {w : ℕ} {ws : List ℕ} {f : Frame} {i : ℕ} {k : Kind} → decodeWord w ≡ decoded.Frame f → stepFrame f s ≡ stepped outcome.Next n
+    later : {s n : State} {φ φ′ : Store} {w : ℕ} {ws : List ℕ} {f : Frame} {i : ℕ} {k : Kind} → decodeWord w ≡ decoded.Frame f → Acts s (f .thread .0) (f .action) n
         → Steps P s φ (f .thread .0) (f .action) φ′ → WrongAt n φ′ ws i k → WrongAt s φ (w ∷ ws) (suc i) k
 
 -- All threads are outside, and every candidate set is all 64 locks.
@@ -104,11 +149,23 @@ startStore = record { stage = λ t. Outside; locks = λ x. getD fullSets x 0 }
 abbrev pub guarding : List ℕ → ℕ → Guard
 guarding guards x = guardOf (getD guards x 0)
 
--- Term 2's first sentence: the verdict on a sound recording is that of the rules. It is reducible exactly if all frames step, and a
--- violation of kind k at frame i exactly if the first i frames step and frame i goes wrong by a rule of that kind.
+-- The reply r to a recording is that of the rules, where P gives each variable's guard: reducible exactly if all frames step, and a violation
+-- of kind k at frame i exactly if the first i frames step and frame i goes wrong by a rule of that kind.
+abbrev pub OfTheRules : (ℕ → Guard) → List ℕ → Reply → Type 0
+OfTheRules P ws r =
+    (r ≡ reducible ↔ AllStep P start startStore ws)
+    × ((i : ℕ) (k : Kind) → ((v : Violation) × (r ≡ violated v) × (v .frame ≡ i) × (v .kind ≡ k)) ↔ WrongAt P start startStore ws i k)
+
+-- Term 2's first sentence: the verdict on a sound recording is that of the rules, whatever the codes of the guards.
 abbrev pub VerdictIsOfTheRules : Type 0
-VerdictIsOfTheRules =
-    (guards ws : List ℕ) → checkReply ws ≡ check.Sound
-    → (judgement guards fullSets ws .reply ≡ reducible ↔ AllStep (guarding guards) start startStore ws)
-    × ((i : ℕ) (k : Kind)
-    → ((v : Violation) × (judgement guards fullSets ws .reply ≡ violated v) × (v .frame ≡ i) × (v .kind ≡ k)) ↔ WrongAt (guarding guards) start startStore ws i k)
+VerdictIsOfTheRules = (guards ws : List ℕ) → checkReply ws ≡ check.Sound → OfTheRules (guarding guards) ws (judgement guards fullSets ws .reply)
+
+-- The same of the text of a guard list: the guards are those that its n lines name.
+abbrev pub DeclaredIsOfTheRules : Type 0
+DeclaredIsOfTheRules =
+    (list ws : List ℕ) (n : ℕ) → guardsRead list .reply ≡ guards-reply.Lines n → checkReply ws ≡ check.Sound
+    → OfTheRules (listedGuard list n) ws (declaredReply list ws)
+
+-- The same of the inferred verdict, with a table of m candidate sets: every guard is inferred.
+abbrev pub InferredIsOfTheRules : Type 0
+InferredIsOfTheRules = (ws : List ℕ) (m : ℕ) → checkReply ws ≡ check.Sound → 1024 ≤ m → OfTheRules (λ x. Inferred) ws (inferredReply ws m)
