@@ -62,9 +62,9 @@ equal-exactly left right = (
   λ s. equal-is-exchanges left right (s .0) (s .1) .1 (s .2),
 )
 
-order-equal : (table ws : List ℕ) → length table ≡ 1024 → Reducible table ws → Closed ws → equalReply ws (serialWords table ws) ≡ equal.Equal
-order-equal table ws long r c =
-    let x = order-exchanges table ws long r c in
+order-equal : (table ws : List ℕ) → Reducible table ws → Closed ws → equalReply ws (serialWords table ws) ≡ equal.Equal
+order-equal table ws r c =
+    let x = order-exchanges table ws r c in
     let s = judgement-sound table fullSets ws verdict.Reducible r in
     equal-exactly ws (serialWords table ws) .1 (s, exchanges-sound x s, x)
 
@@ -157,7 +157,7 @@ asked-inferred ws out = asked (guards.Lines 0) inferredGuards ws out
 pub third-term : ThirdTerm
 third-term = (
   equal-exactly,
-  λ table ws long r c. (order-equal table ws long r c, order-contiguous table ws r c),
+  λ table ws r c. (order-equal table ws r c, order-contiguous table ws r c),
   asked-declared,
   asked-inferred,
 )

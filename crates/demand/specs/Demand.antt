@@ -49,11 +49,11 @@ module _ (list : GuardsReply) (table ws out : List ℕ) where
     pub refused-by : (r ≡ order.Written (length ws) → ⊥) → RefusedBy r × (left ≡ out)
 
 -- "Equal exactly if exchanges lead from one to the other; and the serial order of every reducible, closed recording is equal to it, with no
--- other thread's frame inside a block." Guards of every kind, in a table of 1,024. "The order can be asked for with declared or inferred guards."
+-- other thread's frame inside a block." Guards of every kind, by any table. "The order can be asked for with declared or inferred guards."
 abbrev pub ThirdTerm : Type 0
 ThirdTerm =
     ((left right : List ℕ) → equalReply left right ≡ equal.Equal ↔ Sound left × Sound right × Exchanges independentWords left right)
-    × ((table ws : List ℕ) → length table ≡ 1024 → Reducible table ws → Closed ws
+    × ((table ws : List ℕ) → Reducible table ws → Closed ws
     → (equalReply ws (serialWords table ws) ≡ equal.Equal) × Contiguous (λ t. 0) (serialWords table ws))
     × ((list ws out : List ℕ) → Asked (guardsRead list .reply) (guardsRead list .table) ws out (declaredOrder list ws (length out)) (declaredOut list ws out))
     × ((ws out : List ℕ) → Asked (guards.Lines 0) inferredGuards ws out (inferredOrder ws (length out)) (inferredOut ws out))

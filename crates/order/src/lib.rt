@@ -45,7 +45,6 @@ fn is_irreducible(r: Reply) -> bool
 
 // The serial order under a table of guards: the pass, the walk to the end and the walk that writes, each of which answers what it finds wrong.
 fn order(words: &[u32], guards: &[u8; 1024], out: &mut [u32]) -> OrderReply
-    requires { ⌜ length (now guards) ≡ 1024 ⌝ }
     ensures reply { λ r. ⌜ r ≡ orderReply (now (guards .entry)) (now (words .entry)) (length (now (out .entry))) ⌝ }
     ensures contents { λ r. ⌜ now (out .exit) ≡ orderOut (now (guards .entry)) (now (words .entry)) (now (out .entry)) ⌝ }
 {

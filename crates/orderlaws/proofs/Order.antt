@@ -110,9 +110,9 @@ order-decode : (guards ws : List ℕ) → Reducible guards ws → AllDecode (ser
 order-decode guards ws r = from-decode (length ws) 0 (commits guards ws) ws (reducible-decode guards ws r)
 
 -- Exchanges lead to the serial order of a reducible, closed recording: of its frames
-frames-exchanged : (guards ws : List ℕ) → length guards ≡ 1024 → Reducible guards ws → Closed ws
+frames-exchanged : (guards ws : List ℕ) → Reducible guards ws → Closed ws
     → Exchanges independent (framesOf ws) (framesOf (serialWords guards ws))
-frames-exchanged guards ws long r c =
+frames-exchanged guards ws r c =
     let k = inferred-is-some-choice guards ws .0 r in
     let good : Good (choose guards (k .0)) begin 0 (framesOf ws) =
     subst (λ (x : Run). Good (choose guards (k .0)) x 0 (framesOf ws)) start-view
@@ -122,14 +122,14 @@ frames-exchanged guards ws long r c =
     (serial-exchanges (choose guards (k .0)) (framesOf ws) good (closed-frames guards ws r c))
 
 -- and of its words
-pub order-exchanges : (guards ws : List ℕ) → length guards ≡ 1024 → Reducible guards ws → Closed ws → Exchanges independentWords ws (serialWords guards ws)
-order-exchanges guards ws long r c =
+pub order-exchanges : (guards ws : List ℕ) → Reducible guards ws → Closed ws → Exchanges independentWords ws (serialWords guards ws)
+order-exchanges guards ws r c =
     let all = reducible-decode guards ws r in
-    apart-words all (frames-words ws (serialWords guards ws) all (order-decode guards ws r) (frames-exchanged guards ws long r c))
+    apart-words all (frames-words ws (serialWords guards ws) all (order-decode guards ws r) (frames-exchanged guards ws r c))
 
 -- It has as many words as the recording.
-pub order-length : (guards ws : List ℕ) → length guards ≡ 1024 → Reducible guards ws → Closed ws → length (serialWords guards ws) ≡ length ws
-order-length guards ws long r c = sym (exchanges-length independentWords (order-exchanges guards ws long r c))
+pub order-length : (guards ws : List ℕ) → Reducible guards ws → Closed ws → length (serialWords guards ws) ≡ length ws
+order-length guards ws r c = sym (exchanges-length independentWords (order-exchanges guards ws r c))
 
 -- a thread's depth, in the theory and in the claim
 nest-same : (d : ℕ) (a : Action) → run.nest d a ≡ nest d a
@@ -208,8 +208,8 @@ words-back (w ∷ l) a =
     ap (λ (x : ℕ). x ∷ map encodeFrame (framesOf l)) (frame-word w (a .0)) ∙ ap (λ (x : List ℕ). w ∷ x) (words-back l (a .1))
 
 -- The code's walk of a reducible, closed recording gives its serial order.
-pub walk-is-order : (guards ws : List ℕ) → length guards ≡ 1024 → Reducible guards ws → Closed ws → walkWords guards ws ≡ serialWords guards ws
-walk-is-order guards ws long r c =
+pub walk-is-order : (guards ws : List ℕ) → Reducible guards ws → Closed ws → walkWords guards ws ≡ serialWords guards ws
+walk-is-order guards ws r c =
     sym (words-back (walkWords guards ws) (walk-decode guards ws 0 _ ws all))
     ∙ (ap (λ (l : List Frame). map encodeFrame l) same ∙ words-back (serialWords guards ws) (order-decode guards ws r))
   where

@@ -12,7 +12,6 @@ use Rattle.text.proofs.Laws.{length-wordsTo, scan-limit}
 use Rattle.guards.specs.Guards.{guardsRead}
 use Rattle.guards.specs.declared.GuardsReply.{GuardsReply}
 use Rattle.guards.specs.declared.GuardsReply.the-variants as guards
-use Rattle.guards.proofs.Laws.{table-length}
 use Rattle.soundness.specs.Soundness.{checkReply}
 use Rattle.soundness.specs.declared.CheckReply.{CheckReply}
 use Rattle.soundness.specs.declared.CheckReply.the-variants as check
@@ -60,28 +59,24 @@ length-lines [] = refl
 length-lines (w ∷ ws) = omega (arith, length-append (wordLine w) (linesOf ws), length-word-line w, length-lines ws)
 
 -- the serial order of a recording, under a table of guards
-order-fits : (g ws : List ℕ) → length g ≡ 1024 → length ws ≤ 4096 → length (orderText (orderReply g ws 4096) ws (serialWords g ws)) ≤ 36864
-order-fits g ws long h = go (replicate 4096 0) (length-replicate {A = ℕ} 4096 0)
+order-fits : (g ws : List ℕ) → length ws ≤ 4096 → length (orderText (orderReply g ws 4096) ws (serialWords g ws)) ≤ 36864
+order-fits g ws h = go (replicate 4096 0) (length-replicate {A = ℕ} 4096 0)
   where
     go : (out : List ℕ) → length out ≡ 4096 → length (orderText (orderReply g ws 4096) ws (serialWords g ws)) ≤ 36864
     go out e =
         rw (← e)
-        (order-cases g ws out long (λ q. length (orderText q ws (serialWords g ws)) ≤ 36864) (λ x. omega (arith, refusal-fits source.Recording ws x))
+        (order-cases g ws out (λ q. length (orderText q ws (serialWords g ws)) ≤ 36864) (λ x. omega (arith, refusal-fits source.Recording ws x))
         (λ n. omega (arith, length-lines (serialWords g ws), n)))
-
-inferred-long : length inferredGuards ≡ 1024
-unfolding inferredGuards
-inferred-long = refl
 
 -- with declared guards, and with inferred ones
 under-fits : (declared : Bool) (list ws : List ℕ) → length ws ≤ 4096
     → length (orderText (orderUnder declared list ws) ws (serialWords (guardsUnder declared list) ws)) ≤ 36864
 unfolding declaredOrder inferredOrder
-under-fits false list ws h = order-fits inferredGuards ws inferred-long h
+under-fits false list ws h = order-fits inferredGuards ws h
 under-fits true list ws h = go (guardsRead list .reply)
   where
     go : (q : GuardsReply) → length (orderText (orderOnList q (orderReply (guardsRead list .table) ws 4096)) ws (serialWords (guardsRead list .table) ws)) ≤ 36864
-    go (guards.Lines n) = order-fits (guardsRead list .table) ws (table-length list) h
+    go (guards.Lines n) = order-fits (guardsRead list .table) ws h
     go (guards.Refused x) = omega (arith, refusal-fits source.Recording ws x)
 
 pub serial-fits : (declared : Bool) (list s : List ℕ) → length (serialReport declared list s) ≤ 36864
