@@ -115,11 +115,44 @@ fn inferred(
     look(options, &[], sets);
 }
 
+// The serial order with inferred guards, into an output of o words, 4,097 where the case does not say.
+fn serial(options: &[usize; 256], text: &[u8], words: &mut [u32], out: &mut [u32]) {
+    let k = load(options, text, words);
+    let o = option(options, b'o', out.len(), out.len());
+    number(traceorder::trace_serial_inferred(&words[0..k], &mut out[0..o]));
+    look(options, out, &[]);
+}
+
+// The same with those of a list.
+fn ordered(options: &[usize; 256], text: &[u8], words: &mut [u32], out: &mut [u32]) {
+    let bar = cases::find(text, 0, b'|');
+    if bar == text.len() {
+        bad();
+    } else {
+        let k = load(options, &text[bar + 1..], words);
+        let o = option(options, b'o', out.len(), out.len());
+        number(traceorder::trace_serial_declared(&text[0..bar], &words[0..k], &mut out[0..o]));
+        look(options, out, &[]);
+    }
+}
+
+fn equal(options: &[usize; 256], text: &[u8], words: &mut [u32], right: &mut [u32]) {
+    let bar = cases::find(text, 0, b'|');
+    if bar == text.len() {
+        bad();
+    } else {
+        let k = load(options, &text[0..bar], words);
+        let m = load(options, &text[bar + 1..], right);
+        number(traceorder::trace_equal(&words[0..k], &right[0..m]));
+    }
+}
+
 fn call(
     letter: u8,
     options: &[usize; 256],
     text: &[u8],
     words: &mut [u32],
+    out: &mut [u32],
     sets: &mut [u64],
     line: &mut [u8],
 ) {
@@ -129,6 +162,9 @@ fn call(
         b'g' => number(trace::trace_guards(text)),
         b'd' => declared(options, text, words, line),
         b'i' => inferred(options, text, words, sets, line),
+        b's' => serial(options, text, words, out),
+        b't' => ordered(options, text, words, out),
+        b'e' => equal(options, text, words, out),
         _ => bad(),
     }
 }
@@ -136,6 +172,7 @@ fn call(
 // A call with the buffers that are lent to it.
 fn lend(letter: u8, options: &[usize; 256], text: &[u8]) {
     let mut words = word_room();
+    let mut out = word_room();
     let mut sets = set_room();
     let mut line = line_room();
     let w = option(options, b'w', 4096, 4097);
@@ -146,6 +183,7 @@ fn lend(letter: u8, options: &[usize; 256], text: &[u8]) {
         options,
         text,
         &mut words[0..w],
+        &mut out,
         &mut sets[0..s],
         &mut line[0..l],
     );
