@@ -8,12 +8,13 @@ use Rattle.soundness.specs.Soundness.{stepAction, checkFrom, start}
 use Rattle.instrumented.specs.Rules.{judgeOperation}
 use Rattle.pass.specs.Pass.{judgeFrom, startJudging, fullSets, judgement}
 use Rattle.verdict.specs.Verdict.{declaredReply, inferredGuards, inferredReply}
-use Rattle.line.specs.Line.{byteOf, digits}
+use Rattle.line.specs.Line.{byteOf, digits, fieldsLine}
+use Rattle.output.specs.Output.{bytes}
 use Rattle.answer.specs.Answer.{textJudged}
 use Rattle.exchange.specs.Pull.{pull, pullAll}
 use Rattle.serial.specs.Order.{commitFrom, commitsFrom, unitAt, unitsFrom}
 use Rattle.bench.specs.Bench.{AllRowsHold}
 
 pub all-rows-hold : AllRowsHold
-unfolding decodeParts digitOf digitsValue lineOf wordAt scanFrom wordsTo guardsFrom stepAction checkFrom start judgeOperation judgeFrom startJudging fullSets judgement declaredReply inferredGuards inferredReply byteOf digits textJudged pull pullAll commitFrom commitsFrom unitAt unitsFrom
+unfolding decodeParts digitOf digitsValue lineOf wordAt scanFrom wordsTo guardsFrom stepAction checkFrom start judgeOperation judgeFrom startJudging fullSets judgement declaredReply inferredGuards inferredReply byteOf digits fieldsLine bytes textJudged pull pullAll commitFrom commitsFrom unitAt unitsFrom
 all-rows-hold = refl

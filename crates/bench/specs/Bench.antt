@@ -1,6 +1,7 @@
 -- The bench recordings of document 01 that are marked *, as rows of one list, and the claim that every row holds. Words are written as in
 -- document 01; a recording under inferred guards goes in as text, as the planner hands it in.
 use Prim.Native.Nat.{ℕ, _+_}
+use Prim.Native.String.{String}
 use mathlib.Core.Path.{_≡_}
 use mathlib.Core.Bool.{Bool, true, false, _&&_}
 use mathlib.Core.List.{List, [], _∷_, _++_}
@@ -11,7 +12,8 @@ use Rattle.equal.specs.Equal.{equalReply}
 use Rattle.equal.specs.declared.EqualReply.{EqualReply}
 use Rattle.equal.specs.declared.EqualReply.the-variants.{Equal, Different, Refused}
 use Rattle.serial.specs.Order.{commits, inSerialOrder}
-use Rattle.line.specs.Line.{digits, replyFields}
+use Rattle.line.specs.Line.{digits, replyFields, verdictLine}
+use Rattle.output.specs.Output.{bytes}
 use Rattle.line.specs.declared.Fields.{Fields}
 use Rattle.verdict.specs.Verdict.{declaredReply, inferredGuards}
 use Rattle.answer.specs.Answer.{textJudged}
@@ -21,9 +23,11 @@ abbrev pub textOf : List ℕ → List ℕ
 textOf [] = []
 textOf (w ∷ ws) = digits 8 w ++ (10 ∷ textOf ws)
 
--- What a row says: the fields of the verdict line of a recording, with inferred guards, or with those of a guard list; the commit of each
--- frame's unit and the serial order by place, under a table of guards; whether two recordings are equal.
+-- What a row says: the line that the planner's text is answered with, byte for byte; the fields of the verdict line of a recording, with
+-- inferred guards, or with those of a guard list; the commit of each frame's unit and the serial order by place, under a table of guards;
+-- whether two recordings are equal.
 pub data Row : Type 0 where
+  planner : String → String → Row
   inferred : List ℕ → Fields → Row
   declared : List ℕ → List ℕ → Fields → Row
   committed : List ℕ → List ℕ → List ℕ → Row
@@ -65,6 +69,7 @@ isDifferent Different = true
 isDifferent (Refused s r) = false
 
 abbrev pub holds : Row → Bool
+holds (planner text expected) = sameNumbers (verdictLine (textJudged (bytes text) .reply) (textJudged (bytes text) .frames)) (bytes expected)
 holds (inferred ws expected) = sameFields (replyFields (textJudged (textOf ws) .reply) (textJudged (textOf ws) .frames)) expected
 holds (declared list ws expected) = sameFields (replyFields (declaredReply (textOf list) ws) (length ws)) expected
 holds (committed guards ws expected) = sameNumbers (commits guards ws) expected
@@ -81,8 +86,10 @@ caseC = 0x05000000 ∷ 0x05010000 ∷ 0x01000000 ∷ 0x04000000 ∷ 0x02000000 �
 
 abbrev pub rows : List Row
 rows =
-    -- A: kind 3, frame 4, thread 1, begin 0, commit 3, lock 0
-    inferred (0x05010000 ∷ 0x01010000 ∷ 0x03010000 ∷ 0x02010000 ∷ 0x01010000 ∷ 0x03010001 ∷ 0x02010000 ∷ 0x06010000 ∷ []) (fields 3 4 1 0 3 1)
+    -- A: the input and the output of document 01, each line with its LF
+    planner "05010000\n01010000\n03010000\n02010000\n01010000\n03010001\n02010000\n06010000\n" "03000401000000030000000000000001\n"
+    -- kind 3, frame 4, thread 1, begin 0, commit 3, lock 0
+    ∷ inferred (0x05010000 ∷ 0x01010000 ∷ 0x03010000 ∷ 0x02010000 ∷ 0x01010000 ∷ 0x03010001 ∷ 0x02010000 ∷ 0x06010000 ∷ []) (fields 3 4 1 0 3 1)
     -- B: empty recording, reducible
     ∷ inferred [] (fields 0 0 0 absent absent 0)
     ∷ declared [] [] (fields 0 0 0 absent absent 0)

@@ -1,2 +1,3 @@
 -- Laws of verdict lines that crates above cite.
 pub mod Laws
+pub mod Exact

@@ -1,5 +1,6 @@
--- The fields of a reply, and the bytes of its verdict line.
-use Prim.Native.Nat.{ℕ, zero, suc, _+_, _/_, _%_}
+-- The fields of a reply, the bytes of its verdict line, and for which replies these are exact.
+use Prim.Native.Nat.{ℕ, zero, suc, _+_, _*_, _/_, _%_, _<_}
+use mathlib.Core.Path.{_≡_}
 use mathlib.Core.Bool.{cond}
 use mathlib.Core.List.{List, [], _∷_, _++_}
 use lib.ListN.{take, drop}
@@ -69,3 +70,23 @@ verdictLine r n = fieldsLine (replyFields r n)
 -- "On a line it is eight digits 0-9 A-F, top digit first, then one LF."
 unfoldable pub wordLine : ℕ → List ℕ
 wordLine w = digits 8 w ++ (10 ∷ [])
+
+-- The least number that n digits cannot hold.
+unfoldable pub tooWide : ℕ → ℕ
+tooWide zero = 1
+tooWide (suc n) = 16 * tooWide n
+
+-- Fields that their digits hold whole: places of at most 65,535. (The kind, the thread and the locks of a reply always are so.) A recording
+-- that gets a verdict has at most 4,096 frames, so every reply of the verdicts is so.
+pub record Exact (f : Fields) : Type 0 where
+  pub kind : f .kind < tooWide 2
+  pub frame : f .frame < tooWide placeWidth
+  pub thread : f .thread < tooWide 2
+  pub begin : f .begin < tooWide placeWidth
+  pub commit : f .commit < tooWide placeWidth
+  pub locks : f .locks < tooWide 16
+
+-- For which replies the line is exact: where their fields are held whole, one line means one choice of fields.
+abbrev pub LinesAreExact : Type 0
+LinesAreExact =
+    (r q : Reply) (n m : ℕ) → Exact (replyFields r n) → Exact (replyFields q m) → verdictLine r n ≡ verdictLine q m → replyFields r n ≡ replyFields q m
