@@ -1,7 +1,7 @@
 -- Laws of the definitions of specs/Text: scanning a text line by line, the words written, and what an accepted text is like.
 use Prim.Native.Nat.{ℕ, zero, suc, _+_, _-_, _*_, _≤_, _<_}
 use mathlib.Core.Path.{_≡_, refl, sym, ap, _∙_}
-use mathlib.Core.Bool.{Bool, true, false}
+use mathlib.Core.Bool.{Bool, true, false, cond}
 use mathlib.Core.List.{List, [], _∷_, _++_}
 use native.Mathlib.Omega.{arith}
 use native.Mathlib.Numerals.{add-one}
@@ -35,6 +35,15 @@ module _ (s : List ℕ) (i : ℕ) where
       → scanFrom k s i ≡ ifLine (lineOf s (9 * i)) (scanFrom m s (i + 1)) (refused refusal.Line i)
   unfolding scanFrom
   scan-step k m e h = rw (e, lt-leb (length s) (9 * i) h)
+
+-- behind the 4,096th line all lines are read
+pub full-reached : (s : List ℕ) → reached (scanFrom 0 s 4096) ≡ 4096
+unfolding scanFrom
+full-reached s = go (leb (length s) (9 * 4096))
+  where
+    go : (b : Bool) → reached (cond b (reply.Lines 4096) (refused refusal.TooLong 4096)) ≡ 4096
+    go true = refl
+    go false = refl
 
 pub length-wordsTo : (s : List ℕ) (n : ℕ) → length (wordsTo s n) ≡ n
 unfolding wordsTo

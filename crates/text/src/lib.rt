@@ -6,13 +6,26 @@ ghost use mathlib.Core.Path.{_≡_};
 ghost use mathlib.Core.List.{_++_};
 ghost use Prim.Native.Nat.{_+_, _*_, _≤_, _<_};
 ghost use lib.ListN.{length, drop};
-ghost use Rattle.text.specs.Text.{wordAt, scanned, reached, wordsTo, readReply, readWords};
+ghost use Rattle.text.specs.Text.{wordAt, scanFrom, scanned, reached, wordsTo, readReply, readWords};
 ghost use Rattle.digits.specs.Digits.{Values};
 
 // The number of lines of a text, or why it is refused.
 pub enum ReadReply {
     Lines(u32),
     Refused(Refused),
+}
+
+// What is answered behind the 4,096th line: no byte may stand there.
+fn full(s: &[u8]) -> ReadReply
+    ensures { λ r. ⌜ r ≡ scanFrom 0 (now (s .entry)) 4096 ⌝ }
+{
+    if s.len() <= 36864 {
+        return ReadReply::Lines(4096);
+    }
+    ReadReply::Refused(Refused {
+        reason: Refusal::TooLong,
+        place: 4096,
+    })
 }
 
 // The lines of a text, each word written as it is read: where a line is refused, the words before it are written.
@@ -37,13 +50,7 @@ pub fn read_into(s: &[u8], words: &mut [u32]) -> ReadReply
         words[i] = w;
         i += 1;
     }
-    if s.len() <= 36864 {
-        return ReadReply::Lines(4096);
-    }
-    ReadReply::Refused(Refused {
-        reason: Refusal::TooLong,
-        place: 4096,
-    })
+    full(s)
 }
 
 // The number of lines, or the first refusal among them.
@@ -65,13 +72,7 @@ fn scan(t: &[u64; 256], s: &[u8]) -> ReadReply
         };
         i += 1;
     }
-    if s.len() <= 36864 {
-        return ReadReply::Lines(4096);
-    }
-    ReadReply::Refused(Refused {
-        reason: Refusal::TooLong,
-        place: 4096,
-    })
+    full(s)
 }
 
 // The word of line i, and 0 where there is none.

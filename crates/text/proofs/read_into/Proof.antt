@@ -6,7 +6,7 @@ use native.Mathlib.Omega.{arith}
 use borrow.Author.Needs.{needs}
 use lib.ListN.{length, drop, length-set}
 use Rattle.text.specs.Text.{scanFrom, wordsTo, wordAt}
-use Rattle.text.proofs.Laws.{scan-done, scan-step, scan-over, words-turn}
+use Rattle.text.proofs.Laws.{scan-done, scan-step, full-reached, words-turn}
 use Rattle.text.proofs.read_into.Statement.{statement}
 use Rattle.text.proofs.read_into.Tie as tie
 
@@ -87,6 +87,9 @@ loop-again c =
       simp length-set (l .inv .3),
     )
 
+full-requires : tie.Need-full-requires Inv-loop μ-loop
+full-requires c κs = search needs
+
 same-length-3 : tie.Need-same-length-3 Inv-loop μ-loop
 same-length-3 c = search needs
 
@@ -94,16 +97,8 @@ returns-3 : tie.Need-returns-3 Inv-loop μ-loop
 returns-3 c =
     let l = c .before .before .loop in
     let e : l .i ≡ 4096 = omega arith in
-    (sym (l .inv .1 ∙ scan-done (c .before .before .before .before .before .before .args .s .now) (l .i) (4096 - l .i) (omega arith) ∙ rw e), rw e at (l .inv .2))
-
-same-length-4 : tie.Need-same-length-4 Inv-loop μ-loop
-same-length-4 c = search needs
-
-returns-4 : tie.Need-returns-4 Inv-loop μ-loop
-returns-4 c =
-    let l = c .before .before .loop in
-    let e : l .i ≡ 4096 = omega arith in
-    (sym (rw e at (l .inv .1) ∙ scan-over (c .before .before .before .before .before .before .args .s .now) 4096 (omega arith)), rw e at (l .inv .2))
+    let s = c .before .before .before .before .before .before .args .s .now in
+    (c .full .ensures ∙ sym (rw e at (l .inv .1)), rw (c .full .ensures, full-reached s) (rw e at (l .inv .2)))
 
 pub read-into-spec : {M : Type 1} → statement M
 read-into-spec =
@@ -129,7 +124,6 @@ read-into-spec =
     add-i
     loop-less
     loop-again
+    full-requires
     same-length-3
-    returns-3
-    same-length-4
-    returns-4)
+    returns-3)

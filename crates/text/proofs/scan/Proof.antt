@@ -4,7 +4,7 @@ use mathlib.Core.Path.{_≡_, refl, sym, _∙_}
 use native.Mathlib.Omega.{arith}
 use borrow.Author.Needs.{needs}
 use Rattle.text.specs.Text.{scanFrom}
-use Rattle.text.proofs.Laws.{scan-done, scan-step, scan-over}
+use Rattle.text.proofs.Laws.{scan-done, scan-step}
 use Rattle.text.proofs.scan.Statement.{statement}
 use Rattle.text.proofs.scan.Tie as tie
 
@@ -61,17 +61,14 @@ loop-again c =
     let l = d .before .before .loop in
     (omega arith, l .inv .1 ∙ scan-step (d .before .before .before .before .args .s .now) (l .i) (4096 - l .i) (4096 - (l .i + 1)) (omega arith) (d .if1 .left) ∙ rw (sym (c .before .before .read-line .ensures) ∙ c .enum-told .given .1))
 
+full-requires : tie.Need-full-requires Inv-loop μ-loop
+full-requires c κs = search needs
+
 returns-3 : tie.Need-returns-3 Inv-loop μ-loop
 returns-3 c =
     let l = c .before .before .loop in
     let e : l .i ≡ 4096 = omega arith in
-    sym (l .inv .1 ∙ scan-done (c .before .before .before .before .args .s .now) (l .i) (4096 - l .i) (omega arith) ∙ rw e)
-
-returns-4 : tie.Need-returns-4 Inv-loop μ-loop
-returns-4 c =
-    let l = c .before .before .loop in
-    let e : l .i ≡ 4096 = omega arith in
-    sym (rw e at (l .inv .1) ∙ scan-over (c .before .before .before .before .args .s .now) 4096 (omega arith))
+    c .full .ensures ∙ sym (rw e at (l .inv .1))
 
 pub scan-spec : {M : Type 1} → statement M
 scan-spec =
@@ -92,5 +89,5 @@ scan-spec =
     add-i
     loop-less
     loop-again
-    returns-3
-    returns-4)
+    full-requires
+    returns-3)
