@@ -3,10 +3,11 @@ use command::Command;
 use command::Request;
 use libc::STDOUT_FILENO;
 ghost use mathlib.Core.Path.{_≡_};
+ghost use Prim.Native.Nat.{_+_, _≤_};
 ghost use lib.ListN.{length};
-ghost use Rattle.io.specs.Counts.{Counts};
 
-// The bytes of a buffer: one more than any recording or serial order has. A guard list is shorter still.
+// The bytes of a buffer: 4,096 lines of nine, and one more. A file's bytes behind them change no answer: one of those lines or that byte
+// refuses a text, and line 1,024 at the latest a guard list. Every answer fits too.
 pub const ROOM: usize = 36865;
 
 // A buffer for a file or for what is printed: zeros, of which a caller's proof knows the number alone.
@@ -82,7 +83,9 @@ pub fn request() -> Request {
 }
 
 // A file's bytes, up to a full buffer: how many, or one more than the buffer has where it cannot be read.
-fn read_all(fd: i32, buf: &mut [u8]) -> usize {
+fn read_all(fd: i32, buf: &mut [u8]) -> usize
+    ensures { λ r. ⌜ r ≤ length (now (buf .exit)) + 1 ⌝ }
+{
     let mut done = 0;
     loop {
         let got = libc::read(fd, &mut buf[done..]);
@@ -105,29 +108,23 @@ fn unreadable(name: &[u8]) {
     }
 }
 
-// The bytes of the file of a name: how many, or a full buffer where the use is bad, which is said. What cannot be opened cannot be read.
+// The first bytes of the file of a name: how many, or one more than the buffer has where it cannot be read, which is said. What cannot be
+// opened cannot be read.
 fn load(name: &[u8], buf: &mut [u8]) -> usize
-    ensures { λ r. ⌜ Counts r (now (buf .exit)) ⌝ }
+    ensures { λ r. ⌜ r ≤ length (now (buf .exit)) + 1 ⌝ }
 {
     let fd = os::open_read(name);
     let n = read_all(fd, buf);
     libc::close(fd);
     if buf.len() < n {
         unreadable(name);
-        return buf.len();
-    }
-    if n == buf.len() {
-        complain(
-            b"error: longer than any recording (4096 lines, 36864 bytes): ",
-            name,
-        );
     }
     n
 }
 
 // The same for the file that word i names.
 pub fn load_word(i: usize, buf: &mut [u8]) -> usize
-    ensures { λ r. ⌜ Counts r (now (buf .exit)) ⌝ }
+    ensures { λ r. ⌜ r ≤ length (now (buf .exit)) + 1 ⌝ }
 {
     let mut name = word_room();
     let k = os::arg(i, &mut name);
@@ -136,7 +133,7 @@ pub fn load_word(i: usize, buf: &mut [u8]) -> usize
 
 // The same where there is such a file; no bytes where there is none.
 pub fn load_second(there: bool, i: usize, buf: &mut [u8]) -> usize
-    ensures { λ r. ⌜ Counts r (now (buf .exit)) ⌝ }
+    ensures { λ r. ⌜ r ≤ length (now (buf .exit)) + 1 ⌝ }
 {
     if there { load_word(i, buf) } else { 0 }
 }

@@ -16,14 +16,15 @@ fn answer(c: Command, declared: bool, text: &[u8], other: &[u8]) {
     console::print(&out[..n]);
 }
 
-// A command on the file of word 2 and, where there is a second, that of word i. A judgement with a second file has declared guards.
+// A command on the file of word 2 and, where there is a second, that of word i; nothing where one cannot be read. A judgement with a second
+// file has declared guards.
 fn run(c: Command, second: bool, i: usize) {
     let mut text = console::room();
     let n = console::load_word(2, &mut text);
-    if n < ROOM {
+    if n <= ROOM {
         let mut other = console::room();
         let m = console::load_second(second, i, &mut other);
-        if m < ROOM {
+        if m <= ROOM {
             answer(c, second, &text[..n], &other[..m]);
         }
     }

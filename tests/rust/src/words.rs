@@ -2,12 +2,9 @@
 
 use crate::{
     check_recording, declared_verdict, equal, inferred_verdict, read_guards, read_text,
-    serial_places, verdict_line, Frame, Refusal, Verdict, Violation, MOST_FRAMES,
+    serial_places, verdict_line, Frame, Refusal, Verdict, Violation,
 };
 use std::collections::BTreeMap;
-
-/// The length of the longest recording's text.
-pub const MOST_BYTES: usize = 9 * MOST_FRAMES;
 
 pub const RECORDING: &str = "the recording";
 pub const GUARD_LIST: &str = "the guard list";
@@ -58,14 +55,7 @@ fn content(name: &[u8], files: Files) -> Result<Vec<u8>, Vec<u8>> {
     if name.is_empty() {
         return Err(b"a file name is empty".to_vec());
     }
-    let Some(content) = files(name) else {
-        return Err([b"cannot read ", name].concat());
-    };
-    if content.len() > MOST_BYTES {
-        let too_long = b"longer than any recording (4096 lines, 36864 bytes): ";
-        return Err([too_long, name].concat());
-    }
-    Ok(content)
+    files(name).ok_or_else(|| [b"cannot read ", name].concat())
 }
 
 // Answers.
@@ -254,6 +244,7 @@ fn refusal_text(refused: &Refused) -> String {
             "{line} is not eight digits 0-9 A-F and one LF; write it so, without blanks, lower case \
              or CR, and end the last line."
         ),
+        2 => format!("{file} has more than 4096 lines; cut it down to 4096."),
         4 => format!("{line} has an operation other than 01 to 06; mend its digits 1 and 2."),
         5 => format!("{line} has a thread above 1F; mend its digits 3 and 4."),
         6 => format!(

@@ -14,8 +14,8 @@ use trace_tests::adversarial::{guard_lines, pairs};
 use trace_tests::case::{text, Call};
 use trace_tests::random::{damage_text, interleaved, text_of_words, Random};
 use trace_tests::random_case::{exact_list, random_case, random_list, random_recording};
-use trace_tests::words::{answer, GUARD_LIST, LEFT, MOST_BYTES, RECORDING, RIGHT};
-use trace_tests::VARIABLES;
+use trace_tests::words::{answer, GUARD_LIST, LEFT, RECORDING, RIGHT};
+use trace_tests::{MOST_FRAMES, VARIABLES};
 
 #[path = "../document.rs"]
 mod document;
@@ -24,6 +24,9 @@ use document::{fits, templates, FILES};
 const DEFAULT_SEED: u64 = 1;
 const RANDOM_RECORDINGS: usize = 300;
 const RANDOM_PAIRS: usize = 400;
+const RANDOM_LONG: usize = 60;
+/// The length of the longest recording's text.
+const MOST_BYTES: usize = 9 * MOST_FRAMES;
 const COMMANDS: [&str; 4] = ["verdict", "serial", "explain", "equal"];
 /// The commands on one recording.
 const JUDGING: [&str; 3] = ["verdict", "serial", "explain"];
@@ -113,7 +116,7 @@ fn required(command: &str) -> Vec<String> {
         let label = |number| format!("refusal {number}, {file}");
         numbers.iter().map(label).collect()
     };
-    let sound: &[usize] = &[1, 4, 5, 6, 7, 8, 9, 10];
+    let sound: &[usize] = &[1, 2, 4, 5, 6, 7, 8, 9, 10];
     let of_files = [
         refusals(GUARD_LIST, &[1, 11, 12]),
         refusals(RECORDING, sound),
@@ -151,7 +154,7 @@ fn required(command: &str) -> Vec<String> {
 /// The program itself lends buffers that are long enough.
 fn is_printed(template: &str) -> bool {
     let start = |number: &usize| format!("refused: number {number},");
-    ![2, 3, 15, 16, 17]
+    ![3, 15, 16, 17]
         .iter()
         .any(|number| template.starts_with(&start(number)))
 }
@@ -557,9 +560,21 @@ fn random_pairs(tool: &mut Tool, random: &mut Random) -> Done {
             if random.chance(50) {
                 damage_text(random, text);
             }
-            text.truncate(MOST_BYTES);
         }
         compare(tool, &texts[0], &texts[1])?;
+    }
+    Ok(())
+}
+
+/// Some 4,096 lines, damaged or not.
+fn random_long(tool: &mut Tool, random: &mut Random) -> Done {
+    for _ in 0..RANDOM_LONG {
+        let mut made = text_of_words(&pairs(MOST_FRAMES - 2 + random.below(6)));
+        if random.chance(700) {
+            damage_text(random, &mut made);
+        }
+        write("recording", &made)?;
+        in_each_place(tool, "recording")?;
     }
     Ok(())
 }
@@ -582,25 +597,140 @@ fn in_each_place<N: AsRef<[u8]>>(tool: &mut Tool, name: N) -> Done {
     Ok(())
 }
 
-/// Files as long as can be, and longer.
+/// Files as long as can be.
 fn lengths(tool: &mut Tool) -> Done {
-    let most = text_of_words(&pairs(MOST_BYTES / 9));
-    let list = text_of_words(&guard_lines(&mut Random::new(0), VARIABLES));
-    let mut contents = vec![
-        most.clone(),
-        list,
+    for content in [
+        text_of_words(&pairs(MOST_FRAMES)),
+        text_of_words(&guard_lines(&mut Random::new(0), VARIABLES)),
         vec![b'\n'; MOST_BYTES],
         vec![b'0'; MOST_BYTES],
-    ];
-    for longer in [MOST_BYTES + 1, MOST_BYTES + 9, 1_000_000] {
-        contents.push(most.iter().copied().cycle().take(longer).collect());
-    }
-    for content in contents {
+    ] {
         write("recording", &content)?;
         in_each_place(tool, "recording")?;
     }
-    let too_long = "error: longer than any recording (4096 lines, 36864 bytes): recording\n";
-    tool.expect_text(&["verdict", "recording"], too_long)
+    Ok(())
+}
+
+/// Some ten million bytes.
+const MANY_LINES: usize = 1_100_000;
+
+/// A long text with one byte of a line changed.
+fn long_with(place: usize, byte: u8) -> Vec<u8> {
+    let mut content = text_of_words(&pairs(5000));
+    content[9 * place + 7] = byte;
+    content
+}
+
+/// Files with more than 4,096 lines, or with lines that are too long.
+fn long_texts() -> Vec<Vec<u8>> {
+    let most = text_of_words(&pairs(MOST_FRAMES));
+    let after = |rest: &[u8]| [&most, rest].concat();
+    let mut texts = vec![
+        text_of_words(&pairs(MOST_FRAMES + 1)),
+        text_of_words(&[0xFFFF_FFFF; MOST_FRAMES + 1]),
+        after(b"05000000"),
+        // The last of 4,096 lines has a digit too many, or no LF.
+        [&most[..MOST_BYTES - 1], b"0\n"].concat(),
+        [&most[..MOST_BYTES - 1], b"00"].concat(),
+        vec![b'\n'; MOST_BYTES + 1],
+        vec![b'0'; MOST_BYTES + 1],
+        text_of_words(&pairs(MANY_LINES)),
+        vec![b'0'; 9 * MANY_LINES],
+    ];
+    texts.extend(b"0x\n\r \0\xFF".iter().map(|&byte| after(&[byte])));
+    for place in [0, 1, 100, MOST_FRAMES - 1, MOST_FRAMES, MOST_FRAMES + 1] {
+        texts.push(long_with(place, b'a'));
+        texts.push(long_with(place, b'1'));
+    }
+    texts
+}
+
+/// Lists that name every variable, and a line more or many.
+fn long_lists() -> Vec<Vec<u8>> {
+    let names = text_of_words(&guard_lines(&mut Random::new(0), VARIABLES));
+    let more = |rest: &[u8]| [&names, rest].concat();
+    vec![
+        more(&names[..9]),
+        more(&text("04000000")),
+        more(&text("00000040")),
+        more(b"0000000a\n"),
+        more(b"00000000"),
+        more(b"\n"),
+        names.repeat(5),
+        names.repeat(MANY_LINES / VARIABLES),
+        [&names[..900], &text("04000000")[..], &names.repeat(5)].concat(),
+        [&names[..900], &names[..9], &names.repeat(5)].concat(),
+        [&names[..900], b"x\n", &names.repeat(5)].concat(),
+    ]
+}
+
+const TOO_LONG: &str = "82100000FFFFFFFF0000000000000000\n";
+
+/// A file that is too long, and a line that decides earlier.
+fn long_literals(tool: &mut Tool) -> Done {
+    let too_long = |file| {
+        format!("refused: number 2, {file} has more than 4096 lines; cut it down to 4096.\n")
+    };
+    write("long", &text_of_words(&pairs(MOST_FRAMES + 1)))?;
+    write("good", &text(A))?;
+    write("list", &text("00000000"))?;
+    for guards in [&[][..], &["--guards", "list"]] {
+        let words = |command| [&[command, "long"], guards].concat();
+        tool.expect_text(&words("verdict"), TOO_LONG)?;
+        tool.expect_text(&words("serial"), &too_long(RECORDING))?;
+        tool.expect_text(&words("explain"), &too_long(RECORDING))?;
+    }
+    tool.expect_text(&["equal", "long", "good"], &too_long(LEFT))?;
+    tool.expect_text(&["equal", "good", "long"], &too_long(RIGHT))?;
+    tool.expect_text(&["equal", "long", "long"], &too_long(LEFT))?;
+    // A list is never too long.
+    let named =
+        "refused: number 12, line 3 [2] of the guard list names a variable that an earlier \
+                 line names; keep one of the two.\n";
+    tool.expect_text(
+        &["verdict", "long", "--guards", "long"],
+        "8B000000FFFFFFFF0000000000000000\n",
+    )?;
+    write("list", &text(&"00000000 00010000 ".repeat(5000)))?;
+    tool.expect_text(&["explain", "long", "--guards", "list"], named)?;
+    // A faulty line decides before the length, and the left recording before the right.
+    let faulty = |line: &str| {
+        format!(
+            "refused: number 1, {line} is not eight digits 0-9 A-F and one LF; write it so, \
+             without blanks, lower case or CR, and end the last line.\n"
+        )
+    };
+    write("faulty", &long_with(100, b'a'))?;
+    tool.expect_text(&["verdict", "faulty"], "81006400FFFFFFFF0000000000000000\n")?;
+    tool.expect_text(
+        &["explain", "faulty"],
+        &faulty("line 101 [100] of the recording"),
+    )?;
+    tool.expect_text(
+        &["equal", "faulty", "long"],
+        &faulty("line 101 [100] of the left recording"),
+    )?;
+    tool.expect_text(&["equal", "long", "faulty"], &too_long(LEFT))?;
+    // A file without an end is read no further.
+    let zero = faulty("line 1 [0] of the recording").into_bytes();
+    tool.expect_one(&["explain", "/dev/zero"], &[zero])?;
+    for name in ["long", "faulty"] {
+        context(fs::remove_file(name), "removing a file")?;
+    }
+    Ok(())
+}
+
+/// Files longer than any recording.
+fn long(tool: &mut Tool) -> Done {
+    for content in long_texts().iter().chain(&long_lists()) {
+        write("recording", content)?;
+        in_each_place(tool, "recording")?;
+    }
+    for left in refused_texts() {
+        compare(tool, &left, &text_of_words(&pairs(MOST_FRAMES + 1)))?;
+        compare(tool, &text_of_words(&pairs(MOST_FRAMES + 1)), &left)?;
+    }
+    long_literals(tool)
 }
 
 /// Names that a shell would change, that are no UTF-8, and that are as long as can be.
@@ -829,11 +959,13 @@ fn test(program: &OsStr, seed: u64) -> Result<usize, String> {
     refusals(&mut tool)?;
     bad_use(&mut tool)?;
     lengths(&mut tool)?;
+    long(&mut tool)?;
     names(&mut tool)?;
     unreadable(&mut tool)?;
     two_faults(&mut tool)?;
     random_recordings(&mut tool, random)?;
     random_pairs(&mut tool, random)?;
+    random_long(&mut tool, random)?;
     report(&tool)?;
     Ok(tool.counts.values().sum())
 }
