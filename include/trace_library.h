@@ -44,6 +44,8 @@ uint64_t trace_guards(const uint8_t *list, size_t list_len);
  * commit; 0x03 acquire after commit; 0x80 + n refusal n.
  * Refusals in order: 17 line_len is below 33 (returns 0x91, writes nothing); 1, 11, 12 of the
  * list; 2 words_len is above 4,096; 4 to 10 of the first frame that fails.
+ * The line is the reply: it is written for a verdict, for a refusal of the recording, and for one
+ * of the list as well (kind 0x81, 0x8B, 0x8C, frame = line of the list). Only 17 leaves it.
  */
 uint8_t trace_declared(const uint8_t *list, size_t list_len, const uint32_t *words,
                        size_t words_len, uint8_t *line, size_t line_len);
@@ -54,6 +56,8 @@ uint8_t trace_declared(const uint8_t *list, size_t list_len, const uint32_t *wor
  * 0x80 + n refusal n.
  * Refusals in order: 17 line_len is below 33 (returns 0x91, writes nothing); 2 words_len is
  * above 4,096; 4 to 10 of the first frame that fails; 16 sets_len is below 1,024 (place 1024).
+ * The line is the reply: it is written for a verdict, for a refusal of the recording, and for 16
+ * as well. Only 17 leaves it.
  * With a verdict, sets[v] for v from 0 to 1023 becomes variable v's candidate set, bit n for
  * lock n: after the last frame if reducible, else as before the violating frame. Later entries
  * keep their contents. A refusal leaves sets as it was.
