@@ -1,21 +1,34 @@
 // What is known of a place of a recording, and of a violation, for sentences to speak of.
+use frame::Decoded;
+use frame::Refusal;
+use frame::Thread;
 use phrase::Source;
 use reply::Mark;
 use reply::Violation;
 use sentence::Facts;
 ghost use mathlib.Core.Path.{_≡_};
 ghost use lib.ListN.{getD};
-ghost use Rattle.facts.specs.Facts.{placeOf, placeFacts, violationFacts};
+ghost use Rattle.frame.specs.Frame.{decodeWord};
+ghost use Rattle.facts.specs.Facts.{placeOf, threadIn, placeFacts, violationFacts};
 
-// The word at a place, and 0 outside the recording.
-fn word_at(words: &[u32], place: u32) -> u32
-    ensures { λ w. ⌜ w ≡ getD (now (words .entry)) place 0 ⌝ }
+// The frame at a place. Outside the recording it is that of the word 0, which is no frame.
+fn frame_at(words: &[u32], place: u32) -> Decoded
+    ensures { λ d. ⌜ d ≡ decodeWord (getD (now (words .entry)) place 0) ⌝ }
 {
     let i = place as usize;
     if i < words.len() {
-        return words[i];
+        return frame::decode(words[i]);
     }
-    0
+    frame::decode(0)
+}
+
+fn thread_of(d: Decoded) -> Thread
+    ensures { λ t. ⌜ t ≡ threadIn d ⌝ }
+{
+    let Decoded::Frame(f) = d else {
+        return Thread(0);
+    };
+    f.thread
 }
 
 fn place_of(m: Mark) -> u32
@@ -31,15 +44,15 @@ fn place_of(m: Mark) -> u32
 pub fn place_facts(source: Source, words: &[u32], place: u32) -> Facts
     ensures { λ f. ⌜ f ≡ placeFacts source (now (words .entry)) place ⌝ }
 {
-    let word = word_at(words, place);
+    let d = frame_at(words, place);
     Facts {
         source: source,
         place: place,
-        word: word,
-        thread: (word / 65536 % 256) as u8,
+        frame: d,
+        thread: thread_of(d),
         begin: 0,
         commit: 0,
-        by: 0,
+        by: Decoded::Bad(Refusal::Operation),
         locks: 0,
     }
 }
@@ -50,15 +63,16 @@ pub fn violation_facts(source: Source, words: &[u32], v: Violation) -> Facts
 {
     let begin = v.begin;
     let commit = v.commit;
+    let thread = v.thread;
     let c = place_of(commit);
     Facts {
         source: source,
         place: v.frame,
-        word: word_at(words, v.frame),
-        thread: v.thread.0,
+        frame: frame_at(words, v.frame),
+        thread: thread,
         begin: place_of(begin),
         commit: c,
-        by: word_at(words, c),
+        by: frame_at(words, c),
         locks: v.locks,
     }
 }

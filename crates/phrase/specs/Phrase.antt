@@ -5,6 +5,7 @@ use Rattle.frame.specs.declared.Action.{Action}
 use Rattle.frame.specs.declared.Action.the-variants as action
 use Rattle.frame.specs.declared.Decoded.{Decoded}
 use Rattle.frame.specs.declared.Decoded.the-variants as decoded
+use Rattle.frame.specs.declared.Variable.{Variable}
 use Rattle.output.specs.Output.{bytes, decimal}
 use Rattle.phrase.specs.declared.Source.{Source}
 use Rattle.phrase.specs.declared.Source.the-variants as source
@@ -27,7 +28,20 @@ actionText (action.Write v) = bytes "write of variable " ++ decimal (v .0)
 actionText action.Begin = bytes "begin"
 actionText action.End = bytes "end"
 
--- What a word does.
+-- What a frame does.
 unfoldable pub decodedText : Decoded → List ℕ
 decodedText (decoded.Frame f) = actionText (f .action)
 decodedText (decoded.Bad r) = bytes "no frame"
+
+abbrev pub accessed : Action → Variable
+accessed (action.Acquire l) = record { 0 = 0 }
+accessed (action.Release l) = record { 0 = 0 }
+accessed (action.Read v) = v
+accessed (action.Write v) = v
+accessed action.Begin = record { 0 = 0 }
+accessed action.End = record { 0 = 0 }
+
+-- The variable that a frame reads or writes; 0 where there is none, which no sentence shows.
+abbrev pub variableIn : Decoded → Variable
+variableIn (decoded.Frame f) = accessed (f .action)
+variableIn (decoded.Bad r) = record { 0 = 0 }

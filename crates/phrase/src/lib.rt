@@ -1,16 +1,16 @@
-// What sentences name: the recording or list spoken of, a line and its place, what a word does. Written into a lent buffer from a place on, as far as
+// What sentences name: the recording or list spoken of, a line and its place, what a frame does. Written into a lent buffer from a place on, as far as
 // there is room; each function replies the place behind what it wrote.
 use frame::Action;
 use frame::Decoded;
+use frame::Variable;
 use output::put_byte;
 use output::put_decimal;
 use output::put_text;
 ghost use mathlib.Core.Path.{_≡_};
 ghost use mathlib.Core.List.{_++_};
 ghost use lib.ListN.{length};
-ghost use Rattle.frame.specs.Frame.{decodeWord};
 ghost use Rattle.output.specs.Output.{decimal, behind, written};
-ghost use Rattle.phrase.specs.Phrase.{sourceText, lineText, actionText, decodedText};
+ghost use Rattle.phrase.specs.Phrase.{sourceText, lineText, actionText, decodedText, variableIn};
 
 // What is spoken of.
 pub enum Source {
@@ -66,17 +66,34 @@ fn put_action(out: &mut [u8], at: usize, a: Action) -> usize
     }
 }
 
-// What a word does.
-pub fn put_word(out: &mut [u8], at: usize, word: u32) -> usize
-    ensures place { λ r. ⌜ r ≡ behind (length (now (out .entry))) at (decodedText (decodeWord word)) ⌝ }
-    ensures contents { λ r. ⌜ now (out .exit) ≡ written (now (out .entry)) at (decodedText (decodeWord word)) ⌝ }
+// What a frame does.
+pub fn put_frame(out: &mut [u8], at: usize, d: Decoded) -> usize
+    ensures place { λ r. ⌜ r ≡ behind (length (now (out .entry))) at (decodedText d) ⌝ }
+    ensures contents { λ r. ⌜ now (out .exit) ≡ written (now (out .entry)) at (decodedText d) ⌝ }
 {
-    let d = frame::decode(word);
     match d {
         Decoded::Frame(f) => {
             let a = f.action;
             put_action(out, at, a)
         }
         Decoded::Bad(r) => put_text(out, at, b"no frame"),
+    }
+}
+
+// The variable that a frame reads or writes.
+pub fn variable_of(d: Decoded) -> Variable
+    ensures { λ r. ⌜ r ≡ variableIn d ⌝ }
+{
+    let Decoded::Frame(f) = d else {
+        return Variable(0);
+    };
+    let a = f.action;
+    match a {
+        Action::Acquire(l) => Variable(0),
+        Action::Release(l) => Variable(0),
+        Action::Read(v) => v,
+        Action::Write(v) => v,
+        Action::Begin => Variable(0),
+        Action::End => Variable(0),
     }
 }

@@ -1,5 +1,5 @@
 -- How long a sentence can become when its marks are filled in.
-use Prim.Native.Nat.{ℕ, _+_, _%_}
+use Prim.Native.Nat.{ℕ, _+_}
 use Prim.Native.Char.{code}
 use mathlib.Core.Path.{_≡_}
 use mathlib.Core.Bool.{Bool, true, false, cond}
@@ -7,7 +7,6 @@ use mathlib.Core.List.{List, [], _∷_}
 use native.Mathlib.Omega.{arith}
 use borrow.Author.Tests.{leb-true}
 use lib.Dec.{eqb, leb}
-use Rattle.frame.specs.Frame.{decodeWord}
 use Rattle.frame.specs.declared.Action.{Action}
 use Rattle.frame.specs.declared.Action.the-variants as action
 use Rattle.frame.specs.declared.Decoded.{Decoded}
@@ -15,7 +14,7 @@ use Rattle.frame.specs.declared.Decoded.the-variants as decoded
 use Rattle.output.specs.Output.{bytes}
 use Rattle.report.proofs.Texts.{Within, wider, plain, joined, decimal-within, locks-within}
 use Rattle.sentence.specs.Sentence.{piece, filled}
-use Rattle.phrase.specs.Phrase.{sourceText, lineText, actionText, decodedText}
+use Rattle.phrase.specs.Phrase.{sourceText, lineText, actionText, decodedText, variableIn}
 use Rattle.phrase.specs.declared.Source.{Source}
 use Rattle.phrase.specs.declared.Source.the-variants as source
 use Rattle.sentence.specs.declared.Facts.{Facts}
@@ -76,10 +75,10 @@ piece-within f c =
     (weighed (eqb c (code "<")) (line-within (f .begin))
     (weighed (eqb c (code ">")) (line-within (f .commit))
     (weighed (eqb c (code "%")) (source-within (f .source))
-    (weighed (eqb c (code "*")) (decoded-within (decodeWord (f .word)))
-    (weighed (eqb c (code "^")) (decoded-within (decodeWord (f .by)))
-    (weighed (eqb c (code "&")) (decimal-within (f .thread))
-    (weighed (eqb c (code "$")) (decimal-within (f .word % 65536))
+    (weighed (eqb c (code "*")) (decoded-within (f .frame))
+    (weighed (eqb c (code "^")) (decoded-within (f .by))
+    (weighed (eqb c (code "&")) (decimal-within (f .thread .0))
+    (weighed (eqb c (code "$")) (decimal-within (variableIn (f .frame) .0))
     (weighed (eqb c (code "~")) (locks-within (f .locks))
     (weighed (eqb c (code "#")) (decimal-within (f .place)) (record { fits = omega arith }))))))))))
 

@@ -1,13 +1,12 @@
 -- Sentences: texts with marks in them. `piece` says what each mark stands for. Lines count from 1 and places, in brackets, from 0.
-use Prim.Native.Nat.{ℕ, _+_, _%_}
+use Prim.Native.Nat.{ℕ}
 use Prim.Native.Char.{code}
 use mathlib.Core.Bool.{cond}
 use mathlib.Core.List.{List, [], _∷_, _++_}
 use lib.Dec.{eqb}
-use Rattle.frame.specs.Frame.{decodeWord}
 use Rattle.output.specs.Output.{decimal, locksText}
 use Rattle.sentence.specs.declared.Facts.{Facts}
-use Rattle.phrase.specs.Phrase.{sourceText, lineText, decodedText}
+use Rattle.phrase.specs.Phrase.{sourceText, lineText, decodedText, variableIn}
 
 -- What a byte of a sentence stands for.
 unfoldable pub piece : Facts → ℕ → List ℕ
@@ -16,10 +15,10 @@ piece f c =
     (cond (eqb c (code "<")) (lineText (f .begin))
     (cond (eqb c (code ">")) (lineText (f .commit))
     (cond (eqb c (code "%")) (sourceText (f .source))
-    (cond (eqb c (code "*")) (decodedText (decodeWord (f .word)))
-    (cond (eqb c (code "^")) (decodedText (decodeWord (f .by)))
-    (cond (eqb c (code "&")) (decimal (f .thread))
-    (cond (eqb c (code "$")) (decimal (f .word % 65536))
+    (cond (eqb c (code "*")) (decodedText (f .frame))
+    (cond (eqb c (code "^")) (decodedText (f .by))
+    (cond (eqb c (code "&")) (decimal (f .thread .0))
+    (cond (eqb c (code "$")) (decimal (variableIn (f .frame) .0))
     (cond (eqb c (code "~")) (locksText (f .locks))
     (cond (eqb c (code "#")) (decimal (f .place))
     (c ∷ []))))))))))

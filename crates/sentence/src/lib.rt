@@ -1,5 +1,7 @@
 // Sentences with marks in them, written into a lent buffer from a place on, as far as there is room. Each function replies the place behind
 // what it wrote.
+use frame::Decoded;
+use frame::Thread;
 use output::put_byte;
 use output::put_decimal;
 use output::put_locks;
@@ -9,15 +11,15 @@ ghost use lib.ListN.{length};
 ghost use Rattle.output.specs.Output.{behind, written};
 ghost use Rattle.sentence.specs.Sentence.{piece, filled};
 
-// What a sentence can speak of: a place, its word, a thread, the block's begin and commit, the commit's word, and locks.
+// What a sentence can speak of: a place, the frame there, a thread, the block's begin and commit, the frame that committed, and locks.
 pub struct Facts {
     pub source: Source,
     pub place: u32,
-    pub word: u32,
-    pub thread: u8,
+    pub frame: Decoded,
+    pub thread: Thread,
     pub begin: u32,
     pub commit: u32,
-    pub by: u32,
+    pub by: Decoded,
     pub locks: u64,
 }
 
@@ -34,10 +36,20 @@ fn put_piece(out: &mut [u8], at: usize, c: u8, f: Facts) -> usize
             let s = f.source;
             phrase::put_source(out, at, s)
         }
-        b'*' => phrase::put_word(out, at, f.word),
-        b'^' => phrase::put_word(out, at, f.by),
-        b'&' => put_decimal(out, at, f.thread as u64),
-        b'$' => put_decimal(out, at, (f.word % 65536) as u64),
+        b'*' => {
+            let d = f.frame;
+            phrase::put_frame(out, at, d)
+        }
+        b'^' => {
+            let d = f.by;
+            phrase::put_frame(out, at, d)
+        }
+        b'&' => put_decimal(out, at, f.thread.0 as u64),
+        b'$' => {
+            let d = f.frame;
+            let v = phrase::variable_of(d);
+            put_decimal(out, at, v.0 as u64)
+        }
         b'~' => put_locks(out, at, f.locks),
         b'#' => put_decimal(out, at, f.place as u64),
         _ => put_byte(out, at, c),

@@ -1,16 +1,16 @@
--- The word is that at the place.
+-- The frame is that at the place.
 use borrow.Author.Needs.{needs}
 use Rattle.facts.proofs.place_facts.Statement.{statement}
 use Rattle.facts.proofs.place_facts.Tie as tie
 
-word-at-requires : tie.Need-word-at-requires
-word-at-requires c κs = search needs
+frame-at-requires : tie.Need-frame-at-requires
+frame-at-requires c κs = search needs
 
-cast-t7 : tie.Need-cast-t7
-cast-t7 c = search needs
+thread-of-requires : tie.Need-thread-of-requires
+thread-of-requires c κs = search needs
 
 returns : tie.Need-returns
-returns c = rw (c .word-at .ensures)
+returns c = rw (c .thread-of .ensures, c .before .frame-at .ensures)
 
 pub place-facts-spec : {M : Type 1} → statement M
-place-facts-spec = tie.close (tie.spec word-at-requires cast-t7 returns)
+place-facts-spec = tie.close (tie.spec frame-at-requires thread-of-requires returns)

@@ -17,17 +17,20 @@ put-line-requires-3 c κs = search needs
 put-source-requires : tie.Need-put-source-requires
 put-source-requires c κs = search needs
 
-put-word-requires : tie.Need-put-word-requires
-put-word-requires c κs = search needs
+put-frame-requires : tie.Need-put-frame-requires
+put-frame-requires c κs = search needs
 
-put-word-requires-2 : tie.Need-put-word-requires-2
-put-word-requires-2 c κs = search needs
+put-frame-requires-2 : tie.Need-put-frame-requires-2
+put-frame-requires-2 c κs = search needs
 
 cast-put-decimal : tie.Need-cast-put-decimal
 cast-put-decimal c = search needs
 
 put-decimal-requires : tie.Need-put-decimal-requires
 put-decimal-requires c κs = search needs
+
+variable-of-requires : tie.Need-variable-of-requires
+variable-of-requires c κs = search needs
 
 cast-put-decimal-2 : tie.Need-cast-put-decimal-2
 cast-put-decimal-2 c = search needs
@@ -80,14 +83,14 @@ same-length-5 c = search needs
 
 returns-5 : tie.Need-returns-5
 unfolding piece
-returns-5 c = rw (c .before .before .before .before .match .keys5) (c .before .before .put-word .ensures)
+returns-5 c = rw (c .before .before .before .before .match .keys5) (c .before .before .put-frame .ensures)
 
 same-length-6 : tie.Need-same-length-6
 same-length-6 c = search needs
 
 returns-6 : tie.Need-returns-6
 unfolding piece
-returns-6 c = rw (c .before .before .before .before .match .keys6) (c .before .before .put-word2 .ensures)
+returns-6 c = rw (c .before .before .before .before .match .keys6) (c .before .before .put-frame2 .ensures)
 
 same-length-7 : tie.Need-same-length-7
 same-length-7 c = search needs
@@ -101,7 +104,8 @@ same-length-8 c = search needs
 
 returns-8 : tie.Need-returns-8
 unfolding piece
-returns-8 c = rw (c .before .before .before .before .before .match .keys8) (c .before .before .put-decimal2 .ensures)
+returns-8 c =
+    rw (c .before .before .before .before .before .before .match .keys8, ← c .before .before .before .before .before .variable-of .ensures) (c .before .before .put-decimal2 .ensures)
 
 same-length-9 : tie.Need-same-length-9
 same-length-9 c = search needs
@@ -134,10 +138,11 @@ put-piece-spec =
     put-line-requires-2
     put-line-requires-3
     put-source-requires
-    put-word-requires
-    put-word-requires-2
+    put-frame-requires
+    put-frame-requires-2
     cast-put-decimal
     put-decimal-requires
+    variable-of-requires
     cast-put-decimal-2
     put-decimal-requires-2
     put-locks-requires

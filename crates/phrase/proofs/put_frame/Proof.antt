@@ -1,13 +1,9 @@
 -- A frame's action, or none.
-use mathlib.Core.Path.{sym}
 use borrow.Author.Needs.{needs}
 use Rattle.output.specs.Output.{bytes}
 use Rattle.phrase.specs.Phrase.{decodedText}
-use Rattle.phrase.proofs.put_word.Statement.{statement}
-use Rattle.phrase.proofs.put_word.Tie as tie
-
-decode-requires : tie.Need-decode-requires
-decode-requires c κs = search needs
+use Rattle.phrase.proofs.put_frame.Statement.{statement}
+use Rattle.phrase.proofs.put_frame.Tie as tie
 
 enum-known-d : tie.Need-enum-known-d
 enum-known-d c = search needs
@@ -29,22 +25,19 @@ same-length c = search needs
 
 returns : tie.Need-returns
 unfolding decodedText
-returns c =
-    rw (sym (c .before .before .before .before .before .before .before .decode .ensures), c .before .before .before .before .before .d .given .1) (c .before .before .put-action .ensures)
+returns c = rw (c .before .before .before .before .before .d .given .1) (c .before .before .put-action .ensures)
 
 same-length-2 : tie.Need-same-length-2
 same-length-2 c = search needs
 
 returns-2 : tie.Need-returns-2
 unfolding decodedText bytes
-returns-2 c =
-    rw (sym (c .before .before .before .before .before .before .before .before .decode .ensures), c .before .before .before .before .before .before .d2 .given .1) (c .before .before .put-text .ensures)
+returns-2 c = rw (c .before .before .before .before .before .before .d2 .given .1) (c .before .before .put-text .ensures)
 
-pub put-word-spec : {M : Type 1} → statement M
-put-word-spec =
+pub put-frame-spec : {M : Type 1} → statement M
+put-frame-spec =
     tie.close
     (tie.spec
-    decode-requires
     enum-known-d
     put-action-requires
     enum-known-d-2
