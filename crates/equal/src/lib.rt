@@ -43,8 +43,9 @@ fn same(left: &[u32], right: &[u32]) -> EqualReply
                 },
             );
         };
-        let t = f.thread.0 as usize;
-        let p = matching::find(right, next[t], t as u32);
+        let thread = f.thread;
+        let t = thread.0 as usize;
+        let p = matching::find(right, next[t], thread);
         if p == right.len() {
             return EqualReply::Different;
         }

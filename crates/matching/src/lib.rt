@@ -1,5 +1,6 @@
 // The steps of the comparison of two recordings: where a thread's next frame stands, and marking that a frame is matched.
 use frame::Action;
+use frame::Thread;
 ghost use mathlib.Core.Path.{_≡_};
 ghost use Prim.Native.Nat.{_≤_, _<_};
 ghost use lib.ListN.{length};
@@ -35,13 +36,14 @@ pub fn mark(locks: &mut [u32; 64], variables: &mut [u32; 1024], a: Action, q: u3
 }
 
 // The first place, `from` or later, of a frame of thread t; the length if there is none.
-pub fn find(words: &[u32], from: usize, t: u32) -> usize
+pub fn find(words: &[u32], from: usize, t: Thread) -> usize
     requires { ⌜ checkReply (now words) ≡ check.Sound ⌝ ∗ ⌜ from ≤ length (now words) ⌝ }
-    ensures { λ r. ⌜ FoundIn (now (words .entry)) t from r ⌝ }
+    ensures { λ r. ⌜ FoundIn (now (words .entry)) (t .0) from r ⌝ }
 {
+    let n = t.0 as u32;
     let mut i = from;
     while i < words.len() {
-        if words[i] / 65536 % 256 == t {
+        if words[i] / 65536 % 256 == n {
             return i;
         }
         i += 1;

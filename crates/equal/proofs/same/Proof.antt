@@ -45,8 +45,8 @@ enum-told c = search needs
 refusal-of-requires : tie.Need-refusal-of-requires Inv-loop μ-loop
 refusal-of-requires c κs = search needs
 
-cast-t23 : tie.Need-cast-t23 Inv-loop μ-loop
-cast-t23 c =
+cast-t24 : tie.Need-cast-t24 Inv-loop μ-loop
+cast-t24 c =
     omega (arith, c .before .before .before .before .before .loop-test .taken, sound-fits (c .before .before .before .before .before .before .before .before .before .before .args .left .now) (c .before .before .before .before .before .before .before .before .before .before .pre .0))
 
 returns-2 : tie.Need-returns-2 Inv-loop μ-loop
@@ -61,18 +61,15 @@ mul-find c = search needs
 
 array-read-find : tie.Need-array-read-find Inv-loop μ-loop
 array-read-find c =
-    decoded-in-range _ _ (sym (c .before .before .before .before .decode .ensures) ∙ c .before .before .d .given .1) .thread
-
-cast-find : tie.Need-cast-find Inv-loop μ-loop
-cast-find c = search needs
+    decoded-in-range _ _ (sym (c .before .before .before .before .before .decode .ensures) ∙ c .before .before .before .d .given .1) .thread
 
 find-requires : tie.Need-find-requires Inv-loop μ-loop
 find-requires c κs =
-    (c .before .before .before .before .before .before .before .before .before .before .before .pre .1, c .before .before .before .before .before .before .before .loop .inv .starts _)
+    (c .before .before .before .before .before .before .before .before .before .before .before .before .pre .1, c .before .before .before .before .before .before .before .before .loop .inv .starts _)
 
 returns-3 : tie.Need-returns-3 Inv-loop μ-loop
 returns-3 c =
-    missing (c .before .before .before .before .before .before .before .before .before .loop .inv) (c .before .before .before .before .before .before .before .before .loop-test .taken) (sym (c .before .before .before .before .before .before .decode .ensures) ∙ c .before .before .before .before .d .given .1) (c .before .find .ensures) (c .if2 .taken)
+    missing (c .before .before .before .before .before .before .before .before .before .before .loop .inv) (c .before .before .before .before .before .before .before .before .before .loop-test .taken) (sym (c .before .before .before .before .before .before .before .decode .ensures) ∙ c .before .before .before .before .before .d .given .1) (c .before .find .ensures) (c .if2 .taken)
 
 mul-if3 : tie.Need-mul-if3 Inv-loop μ-loop
 mul-if3 c = search needs
@@ -82,22 +79,22 @@ shared-slice-read-if3 c = search needs
 
 returns-4 : tie.Need-returns-4 Inv-loop μ-loop
 returns-4 c =
-    words-differ (c .before .before .before .before .before .before .before .before .before .before .before .loop .inv) (c .before .before .before .before .before .before .before .before .before .before .loop-test .taken) (sym (c .before .before .before .before .before .before .before .before .decode .ensures) ∙ c .before .before .before .before .before .before .d .given .1) (c .before .before .before .find .ensures) (c .if3 .taken)
+    words-differ (c .before .before .before .before .before .before .before .before .before .before .before .before .loop .inv) (c .before .before .before .before .before .before .before .before .before .before .before .loop-test .taken) (sym (c .before .before .before .before .before .before .before .before .before .decode .ensures) ∙ c .before .before .before .before .before .before .before .d .given .1) (c .before .before .before .find .ensures) (c .if3 .taken)
 
 add-q : tie.Need-add-q Inv-loop μ-loop
 add-q c = search needs
 
 cast-q : tie.Need-cast-q Inv-loop μ-loop
 cast-q c =
-    omega (arith, c .before .before .before .find .ensures .within, sound-fits (c .before .before .before .before .before .before .before .before .before .before .before .before .before .before .before .args .right .now) (c .before .before .before .before .before .before .before .before .before .before .before .before .before .before .before .pre .1))
+    omega (arith, c .before .before .before .find .ensures .within, sound-fits (c .before .before .before .before .before .before .before .before .before .before .before .before .before .before .before .before .args .right .now) (c .before .before .before .before .before .before .before .before .before .before .before .before .before .before .before .before .pre .1))
 
 mark-requires : tie.Need-mark-requires Inv-loop μ-loop
 mark-requires c κs =
-    decoded-in-range _ _ (sym (c .before .before .before .before .before .before .before .before .before .before .decode .ensures) ∙ c .before .before .before .before .before .before .before .before .d .given .1) .object
+    decoded-in-range _ _ (sym (c .before .before .before .before .before .before .before .before .before .before .before .decode .ensures) ∙ c .before .before .before .before .before .before .before .before .before .d .given .1) .object
 
 returns-5 : tie.Need-returns-5 Inv-loop μ-loop
 returns-5 c =
-    too-early (c .before .before .before .before .before .before .before .before .before .before .before .before .before .before .before .loop .inv) (c .before .before .before .before .before .before .before .before .before .before .before .before .before .before .loop-test .taken) (sym (c .before .before .before .before .before .before .before .before .before .before .before .before .decode .ensures) ∙ c .before .before .before .before .before .before .before .before .before .before .d .given .1) (c .before .before .before .before .before .before .before .find .ensures) (ltb-false _ _ (sym (c .before .mark .ensures .below) ∙ not-true _ (c .if4 .taken)))
+    too-early (c .before .before .before .before .before .before .before .before .before .before .before .before .before .before .before .before .loop .inv) (c .before .before .before .before .before .before .before .before .before .before .before .before .before .before .before .loop-test .taken) (sym (c .before .before .before .before .before .before .before .before .before .before .before .before .before .decode .ensures) ∙ c .before .before .before .before .before .before .before .before .before .before .before .d .given .1) (c .before .before .before .before .before .before .before .find .ensures) (ltb-false _ _ (sym (c .before .mark .ensures .below) ∙ not-true _ (c .if4 .taken)))
 
 add-next : tie.Need-add-next Inv-loop μ-loop
 add-next c = search needs
@@ -107,7 +104,7 @@ mul-next c = search needs
 
 array-write-next : tie.Need-array-write-next Inv-loop μ-loop
 array-write-next c =
-    decoded-in-range _ _ (sym (c .before .before .before .before .before .before .before .before .before .before .before .before .decode .ensures) ∙ c .before .before .before .before .before .before .before .before .before .before .d .given .1) .thread
+    decoded-in-range _ _ (sym (c .before .before .before .before .before .before .before .before .before .before .before .before .before .decode .ensures) ∙ c .before .before .before .before .before .before .before .before .before .before .before .d .given .1) .thread
 
 add-i : tie.Need-add-i Inv-loop μ-loop
 add-i c = search needs
@@ -117,7 +114,7 @@ loop-less c = search needs
 
 loop-again : tie.Need-loop-again Inv-loop μ-loop
 loop-again c =
-    go-on (c .before .before .before .before .before .before .before .before .before .before .before .before .before .before .before .loop .inv) (c .before .before .before .before .before .before .before .before .before .before .before .before .before .before .loop-test .taken) (sym (c .before .before .before .before .before .before .before .before .before .before .before .before .decode .ensures) ∙ c .before .before .before .before .before .before .before .before .before .before .d .given .1) (c .before .before .before .before .before .before .before .find .ensures) (c .before .before .before .before .before .before .if2 .left) (c .before .before .before .before .if3 .left) (ltb-true _ _ (sym (c .before .mark .ensures .below) ∙ not-false _ (c .if4 .left))) (c .before .mark .ensures .marked)
+    go-on (c .before .before .before .before .before .before .before .before .before .before .before .before .before .before .before .before .loop .inv) (c .before .before .before .before .before .before .before .before .before .before .before .before .before .before .before .loop-test .taken) (sym (c .before .before .before .before .before .before .before .before .before .before .before .before .before .decode .ensures) ∙ c .before .before .before .before .before .before .before .before .before .before .before .d .given .1) (c .before .before .before .before .before .before .before .find .ensures) (c .before .before .before .before .before .before .if2 .left) (c .before .before .before .before .if3 .left) (ltb-true _ _ (sym (c .before .mark .ensures .below) ∙ not-false _ (c .if4 .left))) (c .before .mark .ensures .marked)
 
 returns-6 : tie.Need-returns-6 Inv-loop μ-loop
 returns-6 c = walk-end (c .before .before .before .before .before .pre .0) (c .before .loop .inv) (c .loop-test .left)
@@ -136,12 +133,11 @@ same-spec =
     enum-known-d
     enum-told
     refusal-of-requires
-    cast-t23
+    cast-t24
     returns-2
     cast-t
     mul-find
     array-read-find
-    cast-find
     find-requires
     returns-3
     mul-if3
