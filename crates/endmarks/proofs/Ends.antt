@@ -20,10 +20,9 @@ use Rattle.instrumented.specs.Rules.{Judging, judgingOf, judged, judgeOperation
 use Rattle.operation.specs.Operation.{operationOf}
 use Rattle.instrumented.specs.Held.{holding}
 use Rattle.operation.specs.declared.Operation.{Operation}
-use Rattle.reply.specs.Reply.{refused, reducible}
 use Rattle.reply.specs.declared.Reply.the-variants as reply
-use Rattle.pass.specs.Pass.{judgeFrame, judgeFrom, startJudging, fullSets}
-use Rattle.pass.proofs.Onward.{judge-end, judge-bad, judge-fail, judge-wrong, judge-next}
+use Rattle.pass.specs.Pass.{judgeFrame, startJudging, fullSets}
+use Rattle.pass.proofs.Onward.{On, on-wrong, on-next}
 use Rattle.pass.proofs.Turn.{Follows, none-held, frame-follows, frame-judged}
 use Rattle.serial.specs.Order.{Point}
 use Rattle.serial.specs.Walk.{walkReply, endFrom, endPoint}
@@ -34,33 +33,24 @@ pointOf o d b c s = record { state = stateOf o d; judging = judgingOf b c s }
 pub record EndInv (words guards owners depths hs begins commits sets : List ℕ) (i : ℕ) : Type 0 where
   pub within : i ≤ length words
   pub follows : Follows hs owners
-  pub judged-on : walkReply guards words ≡ judgeFrom guards i (stateOf owners depths) (judgingOf begins commits sets) (drop i words) .reply
+  pub judged-on : On guards words i (stateOf owners depths) (judgingOf begins commits sets) (walkReply guards words)
   pub rest : endPoint guards words ≡ endFrom guards i (pointOf owners depths begins commits sets) (drop i words)
 
 pub end-begins : (words guards : List ℕ) → EndInv words guards (replicate 64 0) (replicate 32 0) (replicate 32 0) (replicate 32 0) (replicate 32 0) (replicate 1024 18446744073709551615) 0
 unfolding start startJudging fullSets
-end-begins words guards = record { within = omega arith; follows = none-held; judged-on = refl; rest = refl }
+end-begins words guards = record { within = omega arith; follows = none-held; judged-on = record { replies = refl }; rest = refl }
 
 module _ {words guards owners depths hs begins commits sets : List ℕ} {i : ℕ} (inv : EndInv words guards owners depths hs begins commits sets i) where
-  pub reply-done : length words ≤ i → walkReply guards words ≡ reducible
-  reply-done h = inv .judged-on ∙ judge-end guards words i (stateOf owners depths) (judgingOf begins commits sets) h
-
   pub end-done : length words ≤ i → endPoint guards words ≡ pointOf owners depths begins commits sets
   unfolding endFrom
   end-done h = inv .rest ∙ rw (drop-of-length-le words h)
 
   module _ (h : i < length words) where
-    pub reply-bad : {r : Refusal} → decodeWord (getD words i 0) ≡ decoded.Bad r → walkReply guards words ≡ refused r i
-    reply-bad e = inv .judged-on ∙ judge-bad guards words i (stateOf owners depths) (judgingOf begins commits sets) h e
-
     pub end-bad : {r : Refusal} → decodeWord (getD words i 0) ≡ decoded.Bad r → endPoint guards words ≡ pointOf owners depths begins commits sets
     unfolding endFrom
     end-bad e = inv .rest ∙ rw (drop-cons words i 0 h, e)
 
     module _ {f : Frame} (e : decodeWord (getD words i 0) ≡ decoded.Frame f) {n : State} where
-      pub reply-fail : {r : Refusal} → stepFrame f (stateOf owners depths) ≡ stepped (outcome.Bad r) n → walkReply guards words ≡ refused r i
-      reply-fail g = inv .judged-on ∙ judge-fail guards words i (stateOf owners depths) (judgingOf begins commits sets) h e g
-
       pub end-fail : {r : Refusal} → stepFrame f (stateOf owners depths) ≡ stepped (outcome.Bad r) n → endPoint guards words ≡ record { state = n; judging = judgingOf begins commits sets }
       unfolding endFrom
       end-fail g = inv .rest ∙ rw (drop-cons words i 0 h, e, g)
@@ -71,9 +61,7 @@ module _ {words guards owners depths hs begins commits sets : List ℕ} {i : ℕ
         end-judged = frame-judged guards depths (inv .follows) (decoded-in-range _ _ e) i (judgingOf begins commits sets) oe a
 
         pub reply-wrong : {x : Violation} → v ≡ verdict.Violated x → walkReply guards words ≡ reply.Judged v
-        reply-wrong {x} q =
-            let z : judgeFrame guards i f (stateOf owners depths) (judgingOf begins commits sets) ≡ judged (verdict.Violated x) k = rw q at end-judged in
-            inv .judged-on ∙ judge-wrong guards words i (stateOf owners depths) (judgingOf begins commits sets) h e g z ∙ rw q
+        reply-wrong q = on-wrong (inv .judged-on) h e g end-judged q
 
         pub end-wrong : {x : Violation} → v ≡ verdict.Violated x → endPoint guards words ≡ record { state = n; judging = k }
         unfolding endFrom
@@ -85,6 +73,6 @@ module _ {words guards owners depths hs begins commits sets : List ℕ} {i : ℕ
         end-next q u = record {
           within = omega arith;
           follows = frame-follows guards depths (inv .follows) (decoded-in-range _ _ e) g oe q u;
-          judged-on = inv .judged-on ∙ judge-next guards words i (stateOf owners depths) (judgingOf begins commits sets) h e g (rw q at end-judged);
+          judged-on = on-next (inv .judged-on) h e g end-judged q;
           rest = inv .rest ∙ rw (drop-cons words i 0 h, e, g, end-judged, q, add-one i);
         }

@@ -10,36 +10,40 @@ use Rattle.frame.specs.declared.Frame.{Frame}
 use Rattle.frame.specs.declared.Refusal.{Refusal}
 use Rattle.frame.specs.declared.Decoded.the-variants as decoded
 use Rattle.reply.specs.Reply.{refused, reducible}
+use Rattle.reply.specs.declared.Reply.{Reply}
 use Rattle.reply.specs.declared.Reply.the-variants as reply
+use Rattle.reply.specs.declared.Verdict.{Verdict}
 use Rattle.reply.specs.declared.Verdict.the-variants as verdict
 use Rattle.reply.specs.declared.Violation.{Violation}
 use Rattle.soundness.specs.Soundness.{State, stepped, stepFrame}
 use Rattle.soundness.specs.declared.Outcome.the-variants as outcome
 use Rattle.instrumented.specs.Rules.{Judging, judged}
-use Rattle.pass.specs.Pass.{judgeFrame, judgeFrom, onDecoded, onOutcome, onVerdict}
+use Rattle.pass.specs.Pass.{judgeFrame, judgeFrom}
 
-module _ (guards ws : List ℕ) (i : ℕ) (s : State) (j : Judging) where
-  pub judge-end : length ws ≤ i → judgeFrom guards i s j (drop i ws) .reply ≡ reducible
+-- The pass from place i on replies r.
+pub record On (guards ws : List ℕ) (i : ℕ) (s : State) (j : Judging) (r : Reply) : Type 0 where
+  pub replies : r ≡ judgeFrom guards i s j (drop i ws) .reply
+
+module _ {guards ws : List ℕ} {i : ℕ} {s : State} {j : Judging} {r : Reply} (on : On guards ws i s j r) where
+  pub on-end : length ws ≤ i → r ≡ reducible
   unfolding judgeFrom
-  judge-end h = rw (drop-of-length-le ws h)
+  on-end h = on .replies ∙ rw (drop-of-length-le ws h)
 
   module _ (h : i < length ws) where
-    pub judge-bad : {r : Refusal} → decodeWord (getD ws i 0) ≡ decoded.Bad r → judgeFrom guards i s j (drop i ws) .reply ≡ refused r i
+    pub on-bad : {b : Refusal} → decodeWord (getD ws i 0) ≡ decoded.Bad b → r ≡ refused b i
     unfolding judgeFrom
-    judge-bad e = rw (drop-cons ws i 0 h, e)
+    on-bad e = on .replies ∙ rw (drop-cons ws i 0 h, e)
 
     module _ {f : Frame} {n : State} (e : decodeWord (getD ws i 0) ≡ decoded.Frame f) where
-      pub judge-fail : {r : Refusal} → stepFrame f s ≡ stepped (outcome.Bad r) n → judgeFrom guards i s j (drop i ws) .reply ≡ refused r i
+      pub on-fail : {b : Refusal} → stepFrame f s ≡ stepped (outcome.Bad b) n → r ≡ refused b i
       unfolding judgeFrom
-      judge-fail g = rw (drop-cons ws i 0 h, e, g)
+      on-fail g = on .replies ∙ rw (drop-cons ws i 0 h, e, g)
 
-      module _ (g : stepFrame f s ≡ stepped outcome.Next n) {k : Judging} where
-        pub judge-wrong : {v : Violation} → judgeFrame guards i f s j ≡ judged (verdict.Violated v) k
-            → judgeFrom guards i s j (drop i ws) .reply ≡ reply.Judged (verdict.Violated v)
+      module _ (g : stepFrame f s ≡ stepped outcome.Next n) {v : Verdict} {k : Judging} (a : judgeFrame guards i f s j ≡ judged v k) where
+        pub on-wrong : {x : Violation} → v ≡ verdict.Violated x → r ≡ reply.Judged v
         unfolding judgeFrom
-        judge-wrong a = rw (drop-cons ws i 0 h, e, g, a)
+        on-wrong q = on .replies ∙ rw (drop-cons ws i 0 h, e, g, a, q)
 
-        pub judge-next : judgeFrame guards i f s j ≡ judged verdict.Reducible k
-            → judgeFrom guards i s j (drop i ws) .reply ≡ judgeFrom guards (i + 1) n k (drop (i + 1) ws) .reply
+        pub on-next : v ≡ verdict.Reducible → On guards ws (i + 1) n k r
         unfolding judgeFrom
-        judge-next a = rw (drop-cons ws i 0 h, e, g, a, add-one i)
+        on-next q = record { replies = on .replies ∙ rw (drop-cons ws i 0 h, e, g, a, q, add-one i) }

@@ -23,10 +23,9 @@ use Rattle.instrumented.specs.Rules.{Judging, judgingOf, judged, phaseOf, judge
 use Rattle.operation.specs.Operation.{operationOf}
 use Rattle.instrumented.specs.Held.{holding}
 use Rattle.operation.specs.declared.Operation.{Operation}
-use Rattle.reply.specs.Reply.{refused, reducible}
 use Rattle.reply.specs.declared.Reply.the-variants as reply
-use Rattle.pass.specs.Pass.{judgeFrame, judgeFrom, startJudging, fullSets}
-use Rattle.pass.proofs.Onward.{judge-end, judge-bad, judge-fail, judge-wrong, judge-next}
+use Rattle.pass.specs.Pass.{judgeFrame, startJudging, fullSets}
+use Rattle.pass.proofs.Onward.{On, on-wrong, on-next}
 use Rattle.pass.proofs.Turn.{Follows, none-held, frame-follows, frame-judged}
 use Rattle.serial.specs.Order.{Point, settled}
 use Rattle.serial.specs.Walk.{unitStart, unitIn, walkFrom, walkReply, walkWords}
@@ -46,18 +45,15 @@ settled-begin d b c = go (eqb d 0) refl (eqb c 0) refl
 pub record WalkInv (words guards out₀ out owners depths hs begins commits sets : List ℕ) (at i : ℕ) : Type 0 where
   pub within : i ≤ length words
   pub follows : Follows hs owners
-  pub judged-on : walkReply guards words ≡ judgeFrom guards i (stateOf owners depths) (judgingOf begins commits sets) (drop i words) .reply
+  pub judged-on : On guards words i (stateOf owners depths) (judgingOf begins commits sets) (walkReply guards words)
   pub written : Written out₀ out at (walkWords guards words) (walkFrom guards words i (pointOf owners depths begins commits sets) (drop i words))
 
 pub walk-begins : (words guards out : List ℕ)
     → WalkInv words guards out out (replicate 64 0) (replicate 32 0) (replicate 32 0) (replicate 32 0) (replicate 32 0) (replicate 1024 18446744073709551615) 0 0
 unfolding start startJudging fullSets
-walk-begins words guards out = record { within = omega arith; follows = none-held; judged-on = refl; written = written-none out (walkWords guards words) }
+walk-begins words guards out = record { within = omega arith; follows = none-held; judged-on = record { replies = refl }; written = written-none out (walkWords guards words) }
 
 module _ {words guards out₀ out owners depths hs begins commits sets : List ℕ} {at i : ℕ} (inv : WalkInv words guards out₀ out owners depths hs begins commits sets at i) where
-  pub reply-done : length words ≤ i → walkReply guards words ≡ reducible
-  reply-done h = inv .judged-on ∙ judge-end guards words i (stateOf owners depths) (judgingOf begins commits sets) h
-
   pub walk-done : length words ≤ i → Written out₀ out at (walkWords guards words) []
   unfolding walkFrom
   walk-done h =
@@ -68,17 +64,11 @@ module _ {words guards out₀ out owners depths hs begins commits sets : List �
     stops : walkFrom guards words i (pointOf owners depths begins commits sets) (drop i words) ≡ [] → Written out₀ out at (walkWords guards words) []
     stops q = subst (λ (l : List ℕ). Written out₀ out at (walkWords guards words) l) q (inv .written)
 
-    pub reply-bad : {r : Refusal} → decodeWord (getD words i 0) ≡ decoded.Bad r → walkReply guards words ≡ refused r i
-    reply-bad e = inv .judged-on ∙ judge-bad guards words i (stateOf owners depths) (judgingOf begins commits sets) h e
-
     pub walk-bad : {r : Refusal} → decodeWord (getD words i 0) ≡ decoded.Bad r → Written out₀ out at (walkWords guards words) []
     unfolding walkFrom
     walk-bad e = stops (rw (drop-cons words i 0 h, e))
 
     module _ {f : Frame} (e : decodeWord (getD words i 0) ≡ decoded.Frame f) {n : State} where
-      pub reply-fail : {r : Refusal} → stepFrame f (stateOf owners depths) ≡ stepped (outcome.Bad r) n → walkReply guards words ≡ refused r i
-      reply-fail g = inv .judged-on ∙ judge-fail guards words i (stateOf owners depths) (judgingOf begins commits sets) h e g
-
       pub walk-fail : {r : Refusal} → stepFrame f (stateOf owners depths) ≡ stepped (outcome.Bad r) n → Written out₀ out at (walkWords guards words) []
       unfolding walkFrom
       walk-fail g = stops (rw (drop-cons words i 0 h, e, g))
@@ -89,9 +79,7 @@ module _ {words guards out₀ out owners depths hs begins commits sets : List �
         walk-judged = frame-judged guards depths (inv .follows) (decoded-in-range _ _ e) i (judgingOf begins commits sets) oe a
 
         pub reply-wrong : {x : Violation} → v ≡ verdict.Violated x → walkReply guards words ≡ reply.Judged v
-        reply-wrong {x} q =
-            let z : judgeFrame guards i f (stateOf owners depths) (judgingOf begins commits sets) ≡ judged (verdict.Violated x) k = rw q at walk-judged in
-            inv .judged-on ∙ judge-wrong guards words i (stateOf owners depths) (judgingOf begins commits sets) h e g z ∙ rw q
+        reply-wrong q = on-wrong (inv .judged-on) h e g walk-judged q
 
         pub walk-wrong : {x : Violation} → v ≡ verdict.Violated x → Written out₀ out at (walkWords guards words) []
         unfolding walkFrom
@@ -120,6 +108,6 @@ module _ {words guards out₀ out owners depths hs begins commits sets : List �
             walk-writes ec eo = record {
               within = omega arith;
               follows = frame-follows guards depths (inv .follows) (decoded-in-range _ _ e) g oe q u;
-              judged-on = inv .judged-on ∙ judge-next guards words i (stateOf owners depths) (judgingOf begins commits sets) h e g (rw q at walk-judged);
+              judged-on = on-next (inv .judged-on) h e g walk-judged q;
               written = written-more (unitIn m words (f .thread)) (walkFrom guards words (i + 1) (record { state = n; judging = k }) (drop (i + 1) words)) came r ec eo;
             }

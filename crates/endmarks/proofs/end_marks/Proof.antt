@@ -5,9 +5,10 @@ use native.Mathlib.Omega.{arith}
 use borrow.Author.Needs.{needs}
 use lib.ListN.{length}
 use Rattle.frame.proofs.Laws.{decoded-in-range}
+use Rattle.pass.proofs.Onward.{on-end, on-bad, on-fail}
 use Rattle.pass.proofs.Turn.{frame-held}
 use Rattle.serial.specs.Order.{Point}
-use Rattle.endmarks.proofs.Ends.{EndInv, end-begins, reply-done, end-done, reply-bad, end-bad, reply-fail, end-fail, reply-wrong, end-wrong, end-next}
+use Rattle.endmarks.proofs.Ends.{EndInv, end-begins, end-done, end-bad, end-fail, reply-wrong, end-wrong, end-next}
 use Rattle.endmarks.proofs.end_marks.Statement.{statement}
 use Rattle.endmarks.proofs.end_marks.Tie as tie
 
@@ -47,7 +48,7 @@ returns : tie.Need-returns Inv-loop μ-loop
 returns c =
     let e = sym (c .before .before .before .decode .ensures) ∙ c .before .enum-told .given .1 in
     let q = end-bad (c .before .before .before .before .before .before .loop .inv) (c .before .before .before .before .before .loop-test .taken) e in
-    (rw (c .refusal-of .ensures, c .before .enum-told .given .1) (sym (reply-bad (c .before .before .before .before .before .before .loop .inv) (c .before .before .before .before .before .loop-test .taken) e)), (sym (ap (λ (x : Point). x .state .depths) q), sym (ap (λ (x : Point). x .judging .begins) q)))
+    (rw (c .refusal-of .ensures, c .before .enum-told .given .1) (sym (on-bad (c .before .before .before .before .before .before .loop .inv .judged-on) (c .before .before .before .before .before .loop-test .taken) e)), (sym (ap (λ (x : Point). x .state .depths) q), sym (ap (λ (x : Point). x .judging .begins) q)))
 
 cast-t : tie.Need-cast-t Inv-loop μ-loop
 cast-t c = search needs
@@ -77,7 +78,7 @@ returns-2 c =
     let e = sym (c .before .before .before .before .before .before .before .before .before .before .before .decode .ensures) ∙ c .before .before .before .before .before .before .before .before .before .d .given .1 in
     let g = rw (c .before .enum-told3 .given .1) at (c .before .before .before .step .ensures) in
     let q = end-fail (c .before .before .before .before .before .before .before .before .before .before .before .before .before .before .loop .inv) (c .before .before .before .before .before .before .before .before .before .before .before .before .before .loop-test .taken) e g in
-    (rw (c .outcome-refusal .ensures, c .before .enum-told3 .given .1) (sym (reply-fail (c .before .before .before .before .before .before .before .before .before .before .before .before .before .before .loop .inv) (c .before .before .before .before .before .before .before .before .before .before .before .before .before .loop-test .taken) e g)), (sym (ap (λ (x : Point). x .state .depths) q), sym (ap (λ (x : Point). x .judging .begins) q)))
+    (rw (c .outcome-refusal .ensures, c .before .enum-told3 .given .1) (sym (on-fail (c .before .before .before .before .before .before .before .before .before .before .before .before .before .before .loop .inv .judged-on) (c .before .before .before .before .before .before .before .before .before .before .before .before .before .loop-test .taken) e g)), (sym (ap (λ (x : Point). x .state .depths) q), sym (ap (λ (x : Point). x .judging .begins) q)))
 
 operation-of-requires : tie.Need-operation-of-requires Inv-loop μ-loop
 operation-of-requires c κs =
@@ -120,7 +121,7 @@ loop-again c =
 returns-4 : tie.Need-returns-4 Inv-loop μ-loop
 returns-4 c =
     let q = end-done (c .before .loop .inv) (c .loop-test .left) in
-    (sym (reply-done (c .before .loop .inv) (c .loop-test .left)), (sym (ap (λ (x : Point). x .state .depths) q), sym (ap (λ (x : Point). x .judging .begins) q)))
+    (sym (on-end (c .before .loop .inv .judged-on) (c .loop-test .left)), (sym (ap (λ (x : Point). x .state .depths) q), sym (ap (λ (x : Point). x .judging .begins) q)))
 
 pub end-marks-spec : {M : Type 1} → statement M
 end-marks-spec =

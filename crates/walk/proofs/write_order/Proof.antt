@@ -8,8 +8,9 @@ use Rattle.frame.proofs.Laws.{decoded-in-range}
 use Rattle.soundness.proofs.Laws.{sound-fits}
 use Rattle.serial.proofs.Written.{written-whole}
 use Rattle.serial.proofs.Units.{never-refused, same-behind}
+use Rattle.pass.proofs.Onward.{on-end, on-bad, on-fail}
 use Rattle.pass.proofs.Turn.{frame-held}
-use Rattle.walk.proofs.Walks.{WalkInv, walk-begins, reply-done, walk-done, reply-bad, walk-bad, reply-fail, walk-fail, reply-wrong, walk-wrong, unit-room, walk-writes}
+use Rattle.walk.proofs.Walks.{WalkInv, walk-begins, walk-done, walk-bad, walk-fail, reply-wrong, walk-wrong, unit-room, walk-writes}
 use Rattle.walk.proofs.write_order.Statement.{statement}
 use Rattle.walk.proofs.write_order.Tie as tie
 
@@ -52,7 +53,7 @@ same-length c = c .before .before .before .before .before .before .loop .inv .wr
 returns : tie.Need-returns Inv-loop μ-loop
 returns c =
     let e = sym (c .before .before .before .decode .ensures) ∙ c .before .enum-told .given .1 in
-    (rw (c .refusal-of .ensures, c .before .enum-told .given .1) (sym (reply-bad (c .before .before .before .before .before .before .loop .inv) (c .before .before .before .before .before .loop-test .taken) e)), written-whole (walk-bad (c .before .before .before .before .before .before .loop .inv) (c .before .before .before .before .before .loop-test .taken) e))
+    (rw (c .refusal-of .ensures, c .before .enum-told .given .1) (sym (on-bad (c .before .before .before .before .before .before .loop .inv .judged-on) (c .before .before .before .before .before .loop-test .taken) e)), written-whole (walk-bad (c .before .before .before .before .before .before .loop .inv) (c .before .before .before .before .before .loop-test .taken) e))
 
 cast-t : tie.Need-cast-t Inv-loop μ-loop
 cast-t c = search needs
@@ -100,7 +101,7 @@ returns-2 : tie.Need-returns-2 Inv-loop μ-loop
 returns-2 c =
     let e = sym (c .before .before .before .before .before .before .before .before .before .before .before .decode .ensures) ∙ c .before .before .before .before .before .before .before .before .before .d .given .1 in
     let g = rw (c .before .enum-told3 .given .1) at (c .before .before .before .step .ensures) in
-    (rw (c .outcome-refusal .ensures, c .before .enum-told3 .given .1) (sym (reply-fail (c .before .before .before .before .before .before .before .before .before .before .before .before .before .before .loop .inv) (c .before .before .before .before .before .before .before .before .before .before .before .before .before .loop-test .taken) e g)), written-whole (walk-fail (c .before .before .before .before .before .before .before .before .before .before .before .before .before .before .loop .inv) (c .before .before .before .before .before .before .before .before .before .before .before .before .before .loop-test .taken) e g))
+    (rw (c .outcome-refusal .ensures, c .before .enum-told3 .given .1) (sym (on-fail (c .before .before .before .before .before .before .before .before .before .before .before .before .before .before .loop .inv .judged-on) (c .before .before .before .before .before .before .before .before .before .before .before .before .before .loop-test .taken) e g)), written-whole (walk-fail (c .before .before .before .before .before .before .before .before .before .before .before .before .before .before .loop .inv) (c .before .before .before .before .before .before .before .before .before .before .before .before .before .loop-test .taken) e g))
 
 operation-of-requires : tie.Need-operation-of-requires Inv-loop μ-loop
 operation-of-requires c κs =
@@ -188,7 +189,7 @@ same-length-5 c = c .before .loop .inv .written .long
 
 returns-5 : tie.Need-returns-5 Inv-loop μ-loop
 returns-5 c =
-    (sym (reply-done (c .before .loop .inv) (c .loop-test .left)), written-whole (walk-done (c .before .loop .inv) (c .loop-test .left)))
+    (sym (on-end (c .before .loop .inv .judged-on) (c .loop-test .left)), written-whole (walk-done (c .before .loop .inv) (c .loop-test .left)))
 
 pub write-order-spec : {M : Type 1} → statement M
 write-order-spec =
