@@ -1,20 +1,22 @@
 -- A list is accepted exactly if it is `Listed`. Line order has no meaning: the lines of a rearranged list are those of the list, so it is
--- accepted, with the same table.
-use Prim.Native.Nat.{ℕ, _+_, _-_, _*_, _≤_, _<_}
-use mathlib.Core.Path.{_≡_, refl, sym, ap, _∙_, subst}
-use mathlib.Core.Bool.{Bool, true, false}
+-- accepted, with the same table. The first bytes decide, as they do of a text.
+use Prim.Native.Nat.{ℕ, zero, suc, _+_, _-_, _*_, _≤_, _<_}
+use mathlib.Core.Path.{_≡_, refl, sym, ap, _∙_, subst, fun-ext}
+use mathlib.Core.Bool.{Bool, true, false, cond}
 use mathlib.Core.List.{List}
 use native.Mathlib.Omega.{arith}
 use lib.ListN.{length, take, drop, length-drop}
 use lib.Seq.{length-take-le, getD-take, getD-drop, take-take}
-use lib.Dec.{ltb}
+use lib.Dec.{ltb, leb}
 use borrow.Author.Tests.{le-ltb, ltb-true, ltb-false}
 use Rattle.digits.specs.Digits.{lineOf}
 use Rattle.digits.specs.declared.Line.the-variants as line
 use Rattle.text.specs.Text.{wordIn, wordAt}
 use Rattle.guards.specs.declared.GuardsReply.the-variants as reply
-use Rattle.guards.specs.Guards.{guardVariable}
-use Rattle.guards.specs.Listed.{Listed, AcceptedIfListed, lineBytes, Rearranged, LineOrderHasNoMeaning}
+use Rattle.text.proofs.Front.{line-front, end-front}
+use Rattle.guards.specs.declared.GuardsRead.{GuardsRead}
+use Rattle.guards.specs.Guards.{guardVariable, lines, guardLine, onGuardLine, guardsFrom, noGuards}
+use Rattle.guards.specs.Listed.{Listed, AcceptedIfListed, lineBytes, Rearranged, LineOrderHasNoMeaning, FirstBytesDecideLists}
 use Rattle.guards.proofs.Laws.{guards-listed, guards-accepts, line-order}
 
 -- "A guard list names each variable at most once"
@@ -78,3 +80,15 @@ pub line-order-has-no-meaning : LineOrderHasNoMeaning
 line-order-has-no-meaning s t n r e =
     let u = guards-accepts t n (listed s t n r (guards-listed s n e)) in
     (u, sym (line-order s t n n e u (r .to) (λ i h. (r .to-within i h, word-there s t n r i h)) (r .from) (λ j h. (r .from-within j h, sym (word-back s t n r j h)))))
+
+-- the lines from line i on, of the first bytes
+guards-front : (k : ℕ) (s : List ℕ) (n i : ℕ) (g : List ℕ) → 9 * (i + k) < n → guardsFrom k (take n s) i g ≡ guardsFrom k s i g
+unfolding guardsFrom
+guards-front zero s n i g h = rw (end-front s n (9 * i) (omega arith))
+guards-front (suc k) s n i g h =
+    rw (end-front s n (9 * i) (omega arith), line-front s n (9 * i) (omega arith))
+    (ap (λ (more : List ℕ → GuardsRead). cond (leb (length s) (9 * i)) (lines i g) (onGuardLine (guardLine (lineOf s (9 * i))) i g more))
+    (fun-ext λ t. guards-front k s n (i + 1) t (omega arith)))
+
+pub first-bytes-decide-lists : FirstBytesDecideLists
+first-bytes-decide-lists s = guards-front 4096 s 36865 0 noGuards (omega arith)

@@ -1,4 +1,5 @@
--- Which guard lists are accepted, and that line order has no meaning, as claims over what the contract of `read_guards` cites.
+-- Which guard lists are accepted, that line order has no meaning, and that the first bytes decide: claims over what the contract of
+-- `read_guards` cites.
 use Prim.Native.Nat.{ℕ, suc, _*_, _≤_, _<_}
 use mathlib.Core.Path.{_≡_}
 use mathlib.Core.Logic.{_↔_}
@@ -43,3 +44,7 @@ abbrev pub LineOrderHasNoMeaning : Type 0
 LineOrderHasNoMeaning =
     (s t : List ℕ) (n : ℕ) → Rearranged s t n → guardsRead s .reply ≡ reply.Lines n
     → (guardsRead t .reply ≡ reply.Lines n) × (guardsRead t .table ≡ guardsRead s .table)
+
+-- The first 36,865 bytes of a list decide what is answered, as those of a text do.
+abbrev pub FirstBytesDecideLists : Type 0
+FirstBytesDecideLists = (s : List ℕ) → guardsRead (take 36865 s) ≡ guardsRead s

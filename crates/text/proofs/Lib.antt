@@ -1,2 +1,3 @@
 -- Laws of texts that crates above cite.
 pub mod Laws
+pub mod Front

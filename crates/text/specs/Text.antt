@@ -1,10 +1,10 @@
 -- What a text says: its lines, the words on them, and what reading a recording's text answers and writes. In this order: the lines of a text,
--- the words written, the LFs of a text, the claim that ties the number of lines to them. What one line says is in crate digits.
+-- the words written, the LFs of a text, the claims on the number of lines and on long texts. What one line says is in crate digits.
 use Prim.Native.Nat.{ℕ, zero, suc, _+_, _*_, _≤_, _<_}
 use mathlib.Core.Path.{_≡_}
 use mathlib.Core.Bool.{cond}
 use mathlib.Core.List.{List, [], _∷_, _++_}
-use lib.ListN.{length, getD, drop}
+use lib.ListN.{length, getD, take, drop}
 use lib.Dec.{ltb, leb, eqb}
 use Rattle.frame.specs.declared.Refusal.{Refusal}
 use Rattle.frame.specs.declared.Refusal.the-variants as refusal
@@ -81,3 +81,7 @@ LinesAreLinefeeds =
     (s ws : List ℕ) (n : ℕ) → readReply s (length ws) ≡ reply.Lines n
     → (linefeeds s ≡ n) × (9 * n ≡ length s) × (n ≤ 4096) × (n ≤ length ws)
     × ((i : ℕ) → i < n → lineOf s (9 * i) ≡ line.Word (getD (readWords s ws) i 0))
+
+-- The first 36,865 bytes of a text, 4,096 lines and one byte, decide what is answered: a program need read no more.
+abbrev pub FirstBytesDecide : Type 0
+FirstBytesDecide = (s : List ℕ) → scanned (take 36865 s) ≡ scanned s
