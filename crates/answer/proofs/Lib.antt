@@ -1,2 +1,3 @@
 -- Laws of what the functions for C programs share.
 mod Laws
+pub mod Front

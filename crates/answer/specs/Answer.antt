@@ -1,6 +1,8 @@
--- A refusal as one number, the kind of a reply, the verdict on a text.
+-- A refusal as one number, the kind of a reply, the verdict on a text, and which of its bytes decide.
 use Prim.Native.Nat.{ℕ, _+_, _*_}
+use mathlib.Core.Path.{_≡_}
 use mathlib.Core.List.{List}
+use lib.ListN.{take}
 use Rattle.frame.specs.Refusal.{refusalNumber}
 use Rattle.frame.specs.declared.Refused.{Refused}
 use Rattle.text.specs.Text.{scanned, wordsTo}
@@ -27,3 +29,7 @@ onRead (read.Refused r) s = record { reply = reply.Refused r; frames = 0 }
 
 unfoldable pub textJudged : List ℕ → TextJudged
 textJudged s = onRead (scanned s) s
+
+-- "The small program does the same": it reads 36,865 bytes of its input at most, and these decide what the planner's call would answer of all.
+abbrev pub FirstBytesDecideAnswers : Type 0
+FirstBytesDecideAnswers = (s : List ℕ) → textJudged (take 36865 s) ≡ textJudged s
