@@ -62,10 +62,6 @@ equal-is-exchanges l r p q = (
     is-yes true e = refl
     is-yes false e = never (cc)
 
--- equal recordings have the same length
-pub equal-length : (l r : List ℕ) → checkReply l ≡ sound → checkReply r ≡ sound → equalReply l r ≡ Equal → length l ≡ length r
-equal-length l r p q e = exchanges-length independentWords (equal-is-exchanges l r p q .0 e)
-
 -- "recordings of different length are not equal"
 pub lengths-differ : LengthsDiffer
 lengths-differ l r p q n = answered l r p q ∙ sym (no l r (λ x. n (exchanges-length apart x)))

@@ -230,7 +230,3 @@ module _ {l r : List ℕ} (x : Exchanges independentWords l r) (e : checkReply l
   exchanges-sound =
       check-short r (subst (λ n. n ≤ 4096) (exchanges-length independentWords x) (sound-fits l e))
       ∙ (ap (λ (c : Checked). c .reply) (sym from-start) ∙ (sym (check-short l (sound-fits l e)) ∙ e))
-
-  -- It leaves the same state.
-  pub exchanges-state : checkFrom 0 start l .state ≡ checkFrom 0 start r .state
-  exchanges-state = ap (λ (c : Checked). c .state) from-start

@@ -1,6 +1,6 @@
--- Laws of guard lists, in this order: reading line by line; the table's length and codes; that a list is never too long; what an
--- accepted list says of its text, of the variables that it names and of the others; that no guard of a list is inferred;
--- which lists are accepted; that line order has no meaning.
+-- Laws of guard lists, in this order: reading line by line; the table's length; that a list is never too long; what an
+-- accepted list says of its text, of the variables that it names and of the others; which lists are accepted; that line order has no
+-- meaning.
 use Prim.Native.Nat.{ℕ, zero, suc, _+_, _-_, _*_, _≤_, _<_}
 use mathlib.Core.Path.{_≡_, refl, sym, ap, _∙_}
 use mathlib.Core.Bool.{Bool, true, false, cond}
@@ -8,9 +8,9 @@ use mathlib.Core.List.{List, [], _∷_}
 use native.Mathlib.Omega.{arith}
 use native.Mathlib.Nat.{not-suc-le-zero}
 use lib.ListN.{length, getD, set, replicate, length-set, length-replicate, getD-replicate}
-use lib.Seq.{getD-set-same, getD-set-other, set-out, ext-getD}
+use lib.Seq.{getD-set-same, getD-set-other, ext-getD}
 use lib.Dec.{ltb, leb, eqb}
-use borrow.Author.Tests.{lt-ltb, le-ltb, le-leb, lt-leb, ltb-true, ltb-false, leb-true, eqb-true, eqb-false, eq-eqb, ne-eqb}
+use borrow.Author.Tests.{lt-ltb, le-ltb, le-leb, lt-leb, ltb-false, leb-true, eqb-true, eqb-false, eq-eqb, ne-eqb}
 use Rattle.frame.proofs.Shared.{never, from-here, getD-filled}
 use Rattle.frame.specs.declared.Lock.{Lock}
 use Rattle.frame.specs.declared.Variable.{Variable}
@@ -19,13 +19,12 @@ use Rattle.frame.specs.declared.Refusal.{Refusal}
 use Rattle.frame.specs.declared.Refusal.the-variants as refusal
 use Rattle.digits.specs.declared.Line.{Line}
 use Rattle.digits.specs.declared.Line.the-variants as line
-use Rattle.text.specs.Text.{wordAt, linefeeds}
+use Rattle.text.specs.Text.{wordAt}
 use Rattle.digits.specs.Digits.{lineOf}
-use Rattle.text.proofs.Laws.{Accepted, ends, goes, accepted-length, accepted-linefeeds, accepted-line}
+use Rattle.text.proofs.Laws.{Accepted, ends, goes, accepted-length, accepted-line}
 use Rattle.guards.specs.Guards.{guardOf, guardVariable, guardLock, lines, refused, guardLine, onGuardLine, guardsFrom, noGuards, guardsRead}
-use Rattle.guards.specs.Listed.{Listed}
-use Rattle.guards.specs.declared.Guard.{Guard}
-use Rattle.guards.specs.declared.Guard.the-variants.{Locked, Unprotected, Inferred}
+use Rattle.guards.specs.Listed.{Listed, ListsAreNeverTooLong}
+use Rattle.guards.specs.declared.Guard.the-variants.{Locked, Unprotected}
 use Rattle.guards.specs.declared.GuardLine.{GuardLine}
 use Rattle.guards.specs.declared.GuardLine.the-variants as guard-line
 use Rattle.guards.specs.declared.GuardsRead.{GuardsRead}
@@ -126,26 +125,8 @@ run-length {g = g} (go-on w e t m) = run-length m ∙ length-set g (guardVariabl
 pub table-length : (s : List ℕ) → length (guardsRead s .table) ≡ 1024
 table-length s = run-length (whole s) ∙ length-replicate {A = ℕ} 1024 64
 
--- a code at most 64 for each variable; past the table, 64
-set-code : (g : List ℕ) (v l x : ℕ) → l ≤ 63 → getD g x 64 ≤ 64 → getD (set g v l) x 64 ≤ 64
-set-code g v l x h a = go (eqb x v) refl (ltb v (length g)) refl
-  where
-    go : (t : Bool) → eqb x v ≡ t → (u : Bool) → ltb v (length g) ≡ u → getD (set g v l) x 64 ≤ 64
-    go false q u p = rw (getD-set-other g v x l 64 (eqb-false x v q)) a
-    go true q true p = rw (eqb-true x v q, getD-set-same g v l 64 (ltb-true v (length g) p)) (omega arith)
-    go true q false p = rw (set-out g v l (ltb-false v (length g) p)) a
-
-run-codes : {s : List ℕ} {k i : ℕ} {g : List ℕ} {r : GuardsRead} → Run s k i g r → (x : ℕ) → getD g x 64 ≤ 64 → getD (r .table) x 64 ≤ 64
-run-codes (end h) x a = a
-run-codes over x a = a
-run-codes (stop r h) x a = a
-run-codes {g = g} (go-on w e t m) x a = run-codes m x (set-code g (guardVariable w) (guardLock w) x (t .lock) a)
-
 unnamed-code : (x : ℕ) → getD noGuards x 64 ≡ 64
 unnamed-code x = getD-filled 1024 x 64
-
-pub table-codes : (s : List ℕ) (x : ℕ) → getD (guardsRead s .table) x 64 ≤ 64
-table-codes s x = run-codes (whole s) x (omega (arith, unnamed-code x))
 
 never-code : {A : Type 0} → _≡_ {A = ℕ} 0 64 → A
 never-code e = absurd (omega arith)
@@ -195,8 +176,8 @@ run-short (stop r h) b p e = h (ap (λ (z : Refused). z .reason) (same-refused _
 run-short {g = g} (go-on w q t m) b p e =
     run-short m (omega (arith, free-set g (guardVariable w) (guardLock w) (t .lock) (t .unnamed))) p e
 
-pub never-too-long : (s : List ℕ) (p : ℕ) → guardsRead s .reply ≡ reply.Refused (record { reason = refusal.TooLong; place = p }) → ⊥
-never-too-long s p e = run-short (whole s) (omega (arith, free-replicate 1024)) p e
+pub lists-are-never-too-long : ListsAreNeverTooLong
+lists-are-never-too-long s p e = run-short (whole s) (omega (arith, free-replicate 1024)) p e
 
 -- An accepted list: the reply is n lines.
 module _ (s : List ℕ) (n : ℕ) where
@@ -212,12 +193,6 @@ module _ (s : List ℕ) (n : ℕ) where
   run-accepted over e = never (cc)
   run-accepted (stop r h) e = never (cc)
   run-accepted (go-on w q t m) e = goes w q (run-accepted m e)
-
-  run-limit : {k i : ℕ} {g : List ℕ} {r : GuardsRead} → Run s k i g r → r .reply ≡ reply.Lines n → n ≤ i + free g
-  run-limit {i = i} (end h) e = omega (arith, same-lines i e)
-  run-limit over e = never (cc)
-  run-limit (stop r h) e = never (cc)
-  run-limit {g = g} (go-on w q t m) e = omega (arith, run-limit m e, free-set g (guardVariable w) (guardLock w) (t .lock) (t .unnamed))
 
   run-after : {k i : ℕ} {g : List ℕ} {r : GuardsRead} → Run s k i g r → r .reply ≡ reply.Lines n → i ≤ n
   run-after {i = i} (end h) e = omega (arith, same-lines i e)
@@ -305,12 +280,6 @@ module _ (s : List ℕ) (n : ℕ) (e : guardsRead s .reply ≡ reply.Lines n) wh
   pub guards-length : 9 * n ≡ length s
   guards-length = accepted-length (omega arith) (run-accepted s n (whole s) e)
 
-  pub guards-linefeeds : linefeeds s ≡ n
-  guards-linefeeds = omega (arith, accepted-linefeeds (run-accepted s n (whole s) e))
-
-  pub guards-limit : n ≤ 1024
-  guards-limit = omega (arith, run-limit s n (whole s) e, free-replicate 1024)
-
   pub guards-range : (i : ℕ) → i < n → (guardVariable (wordAt s i) ≤ 1023) × (guardLock (wordAt s i) ≤ 63)
   guards-range i h = run-range s n (whole s) e i (omega arith) h
 
@@ -332,20 +301,6 @@ module _ (s : List ℕ) (n : ℕ) (e : guardsRead s .reply ≡ reply.Lines n) wh
 
   pub unnamed-guard : (x : ℕ) → ((i : ℕ) → i < n → guardVariable (wordAt s i) ≡ x → ⊥) → guardOf (getD (guardsRead s .table) x 64) ≡ Unprotected
   unnamed-guard x f = rw (guards-unnamed x f)
-
--- No guard of a list is inferred.
-below-inferred : (c : ℕ) → c ≤ 64 → guardOf c ≡ Inferred → ⊥
-below-inferred c h e = go (ltb c 64) refl
-  where
-    go : (t : Bool) → ltb c 64 ≡ t → ⊥
-    go true q = let f : _≡_ {A = Guard} (Locked (record { 0 = c })) Inferred = rw q at e in never (cc)
-    go false q =
-        let c64 : c ≡ 64 = omega (arith, ltb-false c 64 q) in
-        let f : _≡_ {A = Guard} Unprotected Inferred = rw c64 at e in
-        never (cc)
-
-pub never-inferred : (s : List ℕ) (x : ℕ) → guardOf (getD (guardsRead s .table) x 64) ≡ Inferred → ⊥
-never-inferred s x e = below-inferred (getD (guardsRead s .table) x 64) (table-codes s x) e
 
 -- A list that is `Listed` is accepted.
 module _ (s : List ℕ) (n : ℕ) (a : Listed s n) where

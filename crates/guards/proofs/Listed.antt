@@ -1,6 +1,6 @@
 -- A list is accepted exactly if it is `Listed`. Line order has no meaning: the lines of a rearranged list are those of the list, so it is
 -- accepted, with the same table. The first bytes decide, as they do of a text.
-use Prim.Native.Nat.{ℕ, zero, suc, _+_, _-_, _*_, _≤_, _<_}
+use Prim.Native.Nat.{ℕ, zero, suc, _+_, _-_, _*_, _<_}
 use mathlib.Core.Path.{_≡_, refl, sym, ap, _∙_, subst, fun-ext}
 use mathlib.Core.Bool.{Bool, true, false, cond}
 use mathlib.Core.List.{List}

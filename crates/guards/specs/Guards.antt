@@ -52,7 +52,7 @@ onGuardLine (guard-line.Names v l) i g more =
 onGuardLine (guard-line.Bad r) i g more = refused r i g
 
 -- "guard list, line by line": the lines from line i on, of which k more may come, with the table g of the lines before.
--- Where a line is refused, the table is the one so far; callers do not use it. The law `never-too-long` says that k never runs out.
+-- Where a line is refused, the table is the one so far; callers do not use it. `ListsAreNeverTooLong` says that k never runs out.
 unfoldable pub guardsFrom : ℕ → List ℕ → ℕ → List ℕ → GuardsRead
 guardsFrom zero s i g = cond (leb (length s) (9 * i)) (lines i g) (refused refusal.TooLong 4096 g)
 guardsFrom (suc k) s i g =

@@ -1,10 +1,11 @@
--- Which guard lists are accepted, that line order has no meaning, and that the first bytes decide: claims over what the contract of
--- `read_guards` cites.
-use Prim.Native.Nat.{ℕ, suc, _*_, _≤_, _<_}
+-- Which guard lists are accepted, that line order has no meaning, that the first bytes decide, and that none is too long: claims over what the
+-- contract of `read_guards` cites.
+use Prim.Native.Nat.{ℕ, _*_, _≤_, _<_}
 use mathlib.Core.Path.{_≡_}
 use mathlib.Core.Logic.{_↔_}
 use mathlib.Core.List.{List}
 use lib.ListN.{length, take, drop}
+use Rattle.frame.specs.declared.Refusal.the-variants as refusal
 use Rattle.digits.specs.Digits.{lineOf}
 use Rattle.digits.specs.declared.Line.the-variants as line
 use Rattle.text.specs.Text.{wordAt}
@@ -48,3 +49,7 @@ LineOrderHasNoMeaning =
 -- The first 36,865 bytes of a list decide what is answered, as those of a text do.
 abbrev pub FirstBytesDecideLists : Type 0
 FirstBytesDecideLists = (s : List ℕ) → guardsRead (take 36865 s) ≡ guardsRead s
+
+-- A guard list is never refused by 2: line 1,024 at the latest is refused by another number.
+abbrev pub ListsAreNeverTooLong : Type 0
+ListsAreNeverTooLong = (s : List ℕ) (p : ℕ) → guardsRead s .reply ≡ reply.Refused (record { reason = refusal.TooLong; place = p }) → ⊥

@@ -1,7 +1,7 @@
 -- The serial order of a reducible, closed recording. In this order: chosen locks change no key; the pass of a reducible recording; exchanges
 -- lead to the order, of words that all decode; in it no other thread's frame is inside a block; the walk is the order; which recordings are
 -- closed.
-use Prim.Native.Nat.{ℕ, zero, suc, _+_, _-_, _≤_, _<_}
+use Prim.Native.Nat.{ℕ, zero, suc, _+_, _≤_, _<_}
 use mathlib.Core.Path.{_≡_, refl, sym, ap, _∙_, subst}
 use mathlib.Core.Bool.{Bool, true, false, cond}
 use mathlib.Core.List.{List, [], _∷_, _++_, map}

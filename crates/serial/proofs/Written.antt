@@ -30,9 +30,6 @@ module _ {out₀ out whole : List ℕ} {n : ℕ} where
   pub written-out : Written out₀ out n whole [] → out ≡ whole ++ drop n out₀
   written-out w = sym (take-append-drop n out) ∙ ap (λ (l : List ℕ). take n out ++ l) (w .behind) ∙ ap (λ (l : List ℕ). l ++ drop n out₀) (sym (w .front ∙ append-nil (take n out)))
 
-  pub written-done : Written out₀ out n whole [] → (n ≡ length whole) × (out ≡ whole ++ drop n out₀)
-  written-done w = (written-all w, written-out w)
-
 -- one more word
 pub written-one : {out₀ out whole rest : List ℕ} {n x : ℕ} → Written out₀ out n whole (x ∷ rest) → n < length out → Written out₀ (set out n x) (n + 1) whole rest
 written-one {out₀} {out} {whole} {rest} {n} {x} w h = record {

@@ -1,4 +1,3 @@
-use mathlib.Core.Path.{refl}
 use borrow.Author.Tests.{lt-ltb}
 use Rattle.pass.specs.Pass.{judgement, setsLeft}
 use borrow.Author.Needs.{needs}
