@@ -1,8 +1,8 @@
--- A refusal as one number, the kind of a reply, the verdict on a text, and which of its bytes decide.
-use Prim.Native.Nat.{ℕ, _+_, _*_}
+-- A refusal as one number, the kind of a reply, the verdict on a text, which of its bytes decide, and that a line holds every place.
+use Prim.Native.Nat.{ℕ, _+_, _*_, _<_}
 use mathlib.Core.Path.{_≡_}
 use mathlib.Core.List.{List}
-use lib.ListN.{take}
+use lib.ListN.{length, take}
 use Rattle.frame.specs.Refusal.{refusalNumber}
 use Rattle.frame.specs.declared.Refused.{Refused}
 use Rattle.text.specs.Text.{scanned, wordsTo}
@@ -10,8 +10,9 @@ use Rattle.text.specs.declared.ReadReply.{ReadReply}
 use Rattle.text.specs.declared.ReadReply.the-variants as read
 use Rattle.reply.specs.declared.Reply.{Reply}
 use Rattle.reply.specs.declared.Reply.the-variants as reply
-use Rattle.line.specs.Line.{replyFields}
-use Rattle.verdict.specs.Verdict.{inferredReply}
+use Rattle.line.specs.Line.{replyFields, placeWidth, tooWide}
+use Rattle.line.specs.declared.Fields.{Fields}
+use Rattle.verdict.specs.Verdict.{declaredReply, inferredReply}
 use Rattle.answer.specs.declared.TextJudged.{TextJudged}
 
 -- A number that answers: the refusal's number in the high 32 bits and its place in the low 32; or no refusal, and the count answered.
@@ -33,3 +34,16 @@ textJudged s = onRead (scanned s) s
 -- "The small program does the same": it reads 36,865 bytes of its input at most, and these decide what the planner's call would answer of all.
 abbrev pub FirstBytesDecideAnswers : Type 0
 FirstBytesDecideAnswers = (s : List ℕ) → textJudged (take 36865 s) ≡ textJudged s
+
+-- The places of a reply are held whole by its line.
+pub record PlacesFit (f : Fields) : Type 0 where
+  pub frame : f .frame < tooWide placeWidth
+  pub begin : f .begin < tooWide placeWidth
+  pub commit : f .commit < tooWide placeWidth
+
+-- Every reply of the verdicts is so, whatever is handed in: the line loses no digit of it.
+abbrev pub RepliesFit : Type 0
+RepliesFit =
+    ((s : List ℕ) → PlacesFit (replyFields (textJudged s .reply) (textJudged s .frames)))
+    × ((list ws : List ℕ) → PlacesFit (replyFields (declaredReply list ws) (length ws)))
+    × ((ws : List ℕ) (n : ℕ) → PlacesFit (replyFields (inferredReply ws n) (length ws)))

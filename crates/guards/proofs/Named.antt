@@ -1,5 +1,6 @@
--- The guard that the lines of an accepted list give to a variable is the one that its code in the table stands for.
-use Prim.Native.Nat.{ℕ, zero, suc, _≤_, _<_}
+-- The guard that the lines of an accepted list give to a variable is the one that its code in the table stands for. And where a list is
+-- refused.
+use Prim.Native.Nat.{ℕ, zero, suc, _+_, _≤_, _<_}
 use mathlib.Core.Path.{_≡_, refl, sym, ap, _∙_}
 use mathlib.Core.Bool.{Bool, true, false}
 use mathlib.Core.List.{List, [], _∷_}
@@ -8,10 +9,13 @@ use borrow.Author.Tests.{eqb-true, eqb-false}
 use lib.Dec.{eqb}
 use lib.ListN.{length, getD}
 use Rattle.frame.proofs.Shared.{from-here}
+use Rattle.frame.specs.declared.Refused.{Refused}
 use Rattle.text.specs.Text.{wordAt}
 use Rattle.guards.specs.Guards.{guardOf, guardVariable, guardsRead, listedGuard}
+use Rattle.guards.specs.declared.GuardsRead.{GuardsRead}
+use Rattle.guards.specs.declared.GuardsReply.{GuardsReply}
 use Rattle.guards.specs.declared.GuardsReply.the-variants as reply
-use Rattle.guards.proofs.Laws.{table-length, named-guard, unnamed-guard}
+use Rattle.guards.proofs.Laws.{Run, end, over, stop, go-on, whole, table-length, named-guard, unnamed-guard}
 
 -- within a list the default is of no account
 same-default : (l : List ℕ) (i a b : ℕ) → i < length l → getD l i a ≡ getD l i b
@@ -37,3 +41,18 @@ pub listed-guard : (s : List ℕ) (n : ℕ) → guardsRead s .reply ≡ reply.Li
 listed-guard s n e x h =
     listed-code s n e x n (omega arith) (λ j a b. absurd (omega arith))
     ∙ ap guardOf (same-default (guardsRead s .table) x 64 0 (omega (arith, table-length s)))
+
+-- the place of a refusal, 0 of none
+abbrev placeOf : GuardsReply → ℕ
+placeOf (reply.Lines n) = 0
+placeOf (reply.Refused r) = r .place
+
+run-place : {s : List ℕ} {k i : ℕ} {g : List ℕ} {r : GuardsRead} → Run s k i g r → i + k ≤ 4096 → placeOf (r .reply) ≤ 4096
+run-place (end l) h = omega arith
+run-place over h = omega arith
+run-place (stop r n) h = omega arith
+run-place (go-on w e t m) h = run-place m (omega arith)
+
+-- a list is refused at a line
+pub guards-place : (s : List ℕ) (r : Refused) → guardsRead s .reply ≡ reply.Refused r → r .place ≤ 4096
+guards-place s r e = rw e at (run-place (whole s) (omega arith))

@@ -76,8 +76,8 @@ unfoldable pub tooWide : ℕ → ℕ
 tooWide zero = 1
 tooWide (suc n) = 16 * tooWide n
 
--- Fields that their digits hold whole: places of at most 65,535. (The kind, the thread and the locks of a reply always are so.) A recording
--- that gets a verdict has at most 4,096 frames, so every reply of the verdicts is so.
+-- Fields that their digits hold whole: places of at most 65,535. (The kind, the thread and the locks of a reply always are so. The places
+-- of the verdicts' replies are, too: `RepliesFit`, crate answer.)
 pub record Exact (f : Fields) : Type 0 where
   pub kind : f .kind < tooWide 2
   pub frame : f .frame < tooWide placeWidth

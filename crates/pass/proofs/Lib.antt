@@ -1,5 +1,7 @@
--- Laws of the judging pass. Fused: the one pass of the code replies as check, then judge. Turn: one turn of its loop.
+-- Laws of the judging pass. Fused: the one pass of the code replies as check, then judge. Turn: one turn of its loop. Places: the
+-- places of its reply.
 pub mod Fused
 pub mod Turn
 pub mod Judgement
 pub mod Onward
+pub mod Places

@@ -1,4 +1,4 @@
--- Laws of soundness: how a pass goes on from place i, by what the frame there does, and what a sound recording is.
+-- Laws of soundness: how a pass goes on from place i, by what the frame there does, what a sound recording is, and where another is refused.
 use Prim.Native.Nat.{ℕ, zero, suc, _+_, _≤_, _<_}
 use mathlib.Core.Path.{_≡_, refl, sym, ap, _∙_}
 use mathlib.Core.Bool.{Bool, true, false, cond}
@@ -14,12 +14,14 @@ use Rattle.frame.specs.Frame.{decodeWord}
 use Rattle.frame.specs.declared.Frame.{Frame}
 use Rattle.frame.specs.declared.Decoded.{Decoded}
 use Rattle.frame.specs.declared.Decoded.the-variants as decoded
+use Rattle.frame.specs.declared.Refused.{Refused}
 use Rattle.frame.specs.declared.Refusal.{Refusal}
 use Rattle.frame.specs.declared.Refusal.the-variants as refusal
+use Rattle.soundness.specs.declared.CheckReply.{CheckReply}
 use Rattle.soundness.specs.declared.CheckReply.the-variants as reply
 use Rattle.soundness.specs.declared.Outcome.{Outcome}
 use Rattle.soundness.specs.declared.Outcome.the-variants as outcome
-use Rattle.soundness.specs.Soundness.{State, Stepped, stepped, stepFrame, stepDecoded, onOutcome, checked, refused, checkFrom, checkReply, start}
+use Rattle.soundness.specs.Soundness.{State, Stepped, stepped, stepFrame, stepDecoded, onOutcome, checked, refused, Checked, checkFrom, checkReply, start}
 
 pub check-short : (ws : List ℕ) → length ws ≤ 4096 → checkReply ws ≡ checkFrom 0 start ws .reply
 check-short ws h = rw (le-ltb 4096 (length ws) h)
@@ -105,3 +107,28 @@ pub spared : (b : Bool) (r : Refusal) (s m n : State) → cond b (stepped (outco
     → (b ≡ false) × (n ≡ m)
 spared true r s m n e = no-step r s n e
 spared false r s m n e = (refl, sym (ap (λ (x : Stepped). x .state) e))
+
+-- the place of a refusal, 0 of none
+abbrev placeOf : CheckReply → ℕ
+placeOf reply.Sound = 0
+placeOf (reply.Refused r) = r .place
+
+outcome-place : (o : Outcome) (s : State) (i m : ℕ) (rest : State → Checked) → i ≤ m → ((n : State) → placeOf (rest n .reply) ≤ m)
+    → placeOf (onOutcome o s i rest .reply) ≤ m
+outcome-place outcome.Next s i m rest h f = f s
+outcome-place (outcome.Bad r) s i m rest h f = h
+
+from-place : (i : ℕ) (s : State) (ws : List ℕ) (m : ℕ) → i + length ws ≤ m → placeOf (checkFrom i s ws .reply) ≤ m
+unfolding checkFrom
+from-place i s [] m h = omega arith
+from-place i s (w ∷ ws) m h =
+    outcome-place (stepDecoded (decodeWord w) s .outcome) (stepDecoded (decodeWord w) s .state) i m (λ n. checkFrom (i + 1) n ws) (omega arith)
+    (λ n. from-place (i + 1) n ws m (omega arith))
+
+-- a recording is refused at a frame, or at 4,096
+pub check-place : (ws : List ℕ) (r : Refused) → checkReply ws ≡ reply.Refused r → r .place ≤ 4096
+check-place ws r e = rw e at (go (ltb 4096 (length ws)) refl)
+  where
+    go : (t : Bool) → ltb 4096 (length ws) ≡ t → placeOf (checkReply ws) ≤ 4096
+    go true q = rw q (omega arith)
+    go false q = rw q (from-place 0 start ws 4096 (omega (arith, ltb-false 4096 (length ws) q)))

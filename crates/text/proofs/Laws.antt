@@ -1,4 +1,5 @@
--- Laws of the definitions of specs/Text: scanning a text line by line, the words written, and what an accepted text is like.
+-- Laws of the definitions of specs/Text: scanning a text line by line, the words written, what an accepted text is like, and
+-- where another is refused.
 use Prim.Native.Nat.{ℕ, zero, suc, _+_, _*_, _≤_, _<_}
 use mathlib.Core.Path.{_≡_, refl, sym, ap, _∙_}
 use mathlib.Core.Bool.{Bool, true, false, cond}
@@ -9,7 +10,7 @@ use lib.ListN.{length, getD, take, drop, set, length-append, take-append-drop, d
 use lib.Seq.{drop-cons, drop-drop, take-at, getD-at}
 use lib.Dec.{ltb, leb, eqb}
 use borrow.Author.Tests.{le-ltb, ltb-false, le-leb, lt-leb, leb-true, eqb-true, eqb-false}
-use Rattle.frame.proofs.Shared.{never, from-here, front-next}
+use Rattle.frame.proofs.Shared.{never, either, from-here, front-next}
 use Rattle.frame.specs.declared.Refusal.the-variants as refusal
 use Rattle.text.specs.Text.{wordIn, wordAt, refused, ifLine, scanFrom, scanned, reached, wordsTo, roomReply, readReply, readWords, linefeeds, LinesAreLinefeeds}
 use Rattle.digits.specs.Digits.{Digits, value, none, digitOf, digitsValue, lineOf}
@@ -228,3 +229,17 @@ after-recording s ws n last e f = in-front s ws n last (rw e at f)
 pub after-into : (s ws : List ℕ) (n : ℕ) (last : List ℕ) (r : ReadReply)
     → r ≡ reply.Lines n → last ≡ wordsTo s (reached r) ++ drop (reached r) ws → Read s n last
 after-into s ws n last r e f = in-front s ws n last (rw e at f)
+
+-- a text is refused at a line, or at 4,096
+scan-place : (k : ℕ) (s : List ℕ) (i : ℕ) → i + k ≤ 4096 → reached (scanFrom k s i) ≤ 4096
+unfolding scanFrom
+scan-place zero s i h = either (λ r. reached r ≤ 4096) (leb (length s) (9 * i)) (omega arith) (omega arith)
+scan-place (suc k) s i h =
+    either (λ r. reached r ≤ 4096) (leb (length s) (9 * i)) (omega arith) (go (lineOf s (9 * i)) (scan-place k s (i + 1) (omega arith)))
+  where
+    go : (l : Line) → reached (scanFrom k s (i + 1)) ≤ 4096 → reached (ifLine l (scanFrom k s (i + 1)) (refused refusal.Line i)) ≤ 4096
+    go (line.Word w) ih = ih
+    go line.Malformed ih = omega arith
+
+pub reached-limit : (s : List ℕ) → reached (scanned s) ≤ 4096
+reached-limit s = scan-place 4096 s 0 (omega arith)
