@@ -152,7 +152,6 @@ fn call(
     options: &[usize; 256],
     text: &[u8],
     words: &mut [u32],
-    out: &mut [u32],
     sets: &mut [u64],
     line: &mut [u8],
 ) {
@@ -162,17 +161,21 @@ fn call(
         b'g' => number(trace::trace_guards(text)),
         b'd' => declared(options, text, words, line),
         b'i' => inferred(options, text, words, sets, line),
+        _ => bad(),
+    }
+}
+
+fn call_order(letter: u8, options: &[usize; 256], text: &[u8], words: &mut [u32], out: &mut [u32]) {
+    match letter {
         b's' => serial(options, text, words, out),
         b't' => ordered(options, text, words, out),
-        b'e' => equal(options, text, words, out),
-        _ => bad(),
+        _ => equal(options, text, words, out),
     }
 }
 
 // A call with the buffers that are lent to it.
 fn lend(letter: u8, options: &[usize; 256], text: &[u8]) {
     let mut words = word_room();
-    let mut out = word_room();
     let mut sets = set_room();
     let mut line = line_room();
     let w = option(options, b'w', 4096, 4097);
@@ -183,10 +186,17 @@ fn lend(letter: u8, options: &[usize; 256], text: &[u8]) {
         options,
         text,
         &mut words[0..w],
-        &mut out,
         &mut sets[0..s],
         &mut line[0..l],
     );
+}
+
+// The same for the comparison and the serial order.
+fn lend_order(letter: u8, options: &[usize; 256], text: &[u8]) {
+    let mut words = word_room();
+    let mut out = word_room();
+    let w = option(options, b'w', 4096, 4097);
+    call_order(letter, options, text, &mut words[0..w], &mut out);
 }
 
 // A case: its letter, its options and its text.
@@ -200,5 +210,8 @@ pub fn run(letter: u8, options: &[u8], text: &[u8]) {
     if n == room.len() {
         bad();
     }
-    lend(letter, &options, &room[0..n]);
+    match letter {
+        b's' | b't' | b'e' => lend_order(letter, &options, &room[0..n]),
+        _ => lend(letter, &options, &room[0..n]),
+    }
 }
