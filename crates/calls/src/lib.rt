@@ -115,38 +115,6 @@ fn inferred(
     look(options, &[], sets);
 }
 
-// The serial order with inferred guards, into an output of o words, 4,097 where the case does not say.
-fn serial(options: &[usize; 256], text: &[u8], words: &mut [u32], out: &mut [u32]) {
-    let k = load(options, text, words);
-    let o = option(options, b'o', out.len(), out.len());
-    number(traceorder::trace_serial_inferred(&words[0..k], &mut out[0..o]));
-    look(options, out, &[]);
-}
-
-// The same with those of a list.
-fn ordered(options: &[usize; 256], text: &[u8], words: &mut [u32], out: &mut [u32]) {
-    let bar = cases::find(text, 0, b'|');
-    if bar == text.len() {
-        bad();
-    } else {
-        let k = load(options, &text[bar + 1..], words);
-        let o = option(options, b'o', out.len(), out.len());
-        number(traceorder::trace_serial_declared(&text[0..bar], &words[0..k], &mut out[0..o]));
-        look(options, out, &[]);
-    }
-}
-
-fn equal(options: &[usize; 256], text: &[u8], words: &mut [u32], right: &mut [u32]) {
-    let bar = cases::find(text, 0, b'|');
-    if bar == text.len() {
-        bad();
-    } else {
-        let k = load(options, &text[0..bar], words);
-        let m = load(options, &text[bar + 1..], right);
-        number(traceorder::trace_equal(&words[0..k], &right[0..m]));
-    }
-}
-
 fn call(
     letter: u8,
     options: &[usize; 256],
@@ -162,14 +130,6 @@ fn call(
         b'd' => declared(options, text, words, line),
         b'i' => inferred(options, text, words, sets, line),
         _ => bad(),
-    }
-}
-
-fn call_order(letter: u8, options: &[usize; 256], text: &[u8], words: &mut [u32], out: &mut [u32]) {
-    match letter {
-        b's' => serial(options, text, words, out),
-        b't' => ordered(options, text, words, out),
-        _ => equal(options, text, words, out),
     }
 }
 
@@ -191,14 +151,6 @@ fn lend(letter: u8, options: &[usize; 256], text: &[u8]) {
     );
 }
 
-// The same for the comparison and the serial order.
-fn lend_order(letter: u8, options: &[usize; 256], text: &[u8]) {
-    let mut words = word_room();
-    let mut out = word_room();
-    let w = option(options, b'w', 4096, 4097);
-    call_order(letter, options, text, &mut words[0..w], &mut out);
-}
-
 // A case: its letter, its options and its text.
 pub fn run(letter: u8, options: &[u8], text: &[u8]) {
     let options = cases::read_options(options);
@@ -210,8 +162,5 @@ pub fn run(letter: u8, options: &[u8], text: &[u8]) {
     if n == room.len() {
         bad();
     }
-    match letter {
-        b's' | b't' | b'e' => lend_order(letter, &options, &room[0..n]),
-        _ => lend(letter, &options, &room[0..n]),
-    }
+    lend(letter, &options, &room[0..n]);
 }

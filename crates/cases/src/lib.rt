@@ -37,7 +37,7 @@ pub fn read_options(text: &[u8]) -> [usize; 256]
                 let n = options[letter as usize] % 10000;
                 options[letter as usize] = n * 10 + (c - b'0') as usize;
             }
-            b' ' | b'l' | b'w' | b's' | b'o' | b'@' | b'n' | b'x' => {
+            b' ' | b'l' | b'w' | b's' | b'@' | b'n' | b'x' => {
                 letter = c;
                 options[letter as usize] = 0;
             }
