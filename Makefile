@@ -1,10 +1,10 @@
 # make test      all tests: the Rattle gate, the comparison with the Rust program, the soak, the C test, the programs' runs, the examples
-# make bench     the benchmark against plain Rust
+# make speed     the benchmark against plain Rust
 # make lib       target/staticlib/libtrace.a and libtraceorder.a for C programs
 # make programs  target/bin/tracecheck and tracetool
 # make lines     lines of code, definitions and proofs of each crate
 # make clean     remove what was built
-.PHONY: test bench lib programs lines clean
+.PHONY: test speed lib programs lines clean
 test:
 	@tests/gate
 lib:
@@ -12,8 +12,8 @@ lib:
 	@rt staticlib traceorder >/dev/null
 programs:
 	@rt check tracecheck tracetool >/dev/null
-bench: lib
-	@tests/bench
+speed: lib
+	@tests/speed
 lines:
 	@tests/lines
 clean:

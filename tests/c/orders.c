@@ -1,7 +1,8 @@
 /*
- * The serial order and the comparison at the boundaries of document 01, called as C programs
+ * The serial order and the comparison at the boundaries of docs/FORMAT.md, called as C programs
  * call them. Each line of standard input is a case; tests/c/orders.in says how one is written.
- * What each call answers and leaves is written to standard output, to be held to orders.out.
+ * The name of each, and what its call answers and leaves, are written to standard output, to be
+ * held to orders.out.
  * Every buffer is allocated at its exact size, so that a memory checker finds any access outside.
  */
 #include "trace_library.h"
@@ -162,11 +163,16 @@ int main(void)
         if (line[0] == '#' || line[0] == '\n')
             continue;
         const char *text = bar(line, end) + 1;
-        struct options given = read_options(line + 1, text - 1);
-        if (line[0] == 'e')
+        const char *blank = memchr(line, ' ', text - line);
+        if (blank == NULL || blank == line)
+            fail("no name");
+        printf("%.*s\n", (int)(blank - line), line);
+        char letter = blank[1];
+        struct options given = read_options(blank + 2, text - 1);
+        if (letter == 'e')
             compare(text, end, given);
-        else if (line[0] == 's' || line[0] == 't')
-            order(line[0], text, end, given);
+        else if (letter == 's' || letter == 't')
+            order(letter, text, end, given);
         else
             fail("no such call");
     }

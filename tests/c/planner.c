@@ -1,6 +1,6 @@
 /*
  * Calls the library from C. Every buffer is allocated at its exact size, so that a memory
- * checker finds any access outside. Expected lines are those of document 01.
+ * checker finds any access outside. Expected lines are those of docs/FORMAT.md.
  */
 #include "trace_check.h"
 #include "trace_library.h"

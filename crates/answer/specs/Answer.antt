@@ -1,18 +1,22 @@
 -- A refusal as one number, the kind of a reply, the verdict on a text, which of its bytes decide, and that a line holds every place.
+-- Quotes are from docs/FORMAT.md.
 use Prim.Native.Nat.{ℕ, _+_, _*_, _<_}
 use mathlib.Core.Path.{_≡_}
-use mathlib.Core.List.{List}
+use mathlib.Core.List.{List, []}
 use lib.ListN.{length, take}
+use Rattle.guards.specs.declared.Judgement.the-variants.{Inferred}
+use Rattle.guards.specs.declared.Judgement.{Judgement}
 use Rattle.frame.specs.Refusal.{refusalNumber}
 use Rattle.frame.specs.declared.Refused.{Refused}
-use Rattle.text.specs.Text.{scanned, wordsTo}
+use Rattle.digits.specs.Digits.{tooWide}
+use Rattle.text.specs.Text.{scanned, wordsTo, mostBytes}
 use Rattle.text.specs.declared.ReadReply.{ReadReply}
 use Rattle.text.specs.declared.ReadReply.the-variants as read
 use Rattle.reply.specs.declared.Reply.{Reply}
 use Rattle.reply.specs.declared.Reply.the-variants as reply
-use Rattle.line.specs.Line.{replyFields, placeWidth, tooWide}
+use Rattle.line.specs.Line.{placeWidth, replyFields}
 use Rattle.line.specs.declared.Fields.{Fields}
-use Rattle.verdict.specs.Verdict.{declaredReply, inferredReply}
+use Rattle.verdict.specs.Verdict.{verdictUnder, inferredReply}
 use Rattle.answer.specs.declared.TextJudged.{TextJudged}
 
 -- A number that answers: the refusal's number in the high 32 bits and its place in the low 32; or no refusal, and the count answered.
@@ -25,15 +29,16 @@ replyKind r = replyFields r 0 .kind
 
 -- "recording text in, one verdict line out, guards inferred"; "All lines of a text come before any of its frames."
 abbrev pub onRead : ReadReply → List ℕ → TextJudged
-onRead (read.Lines n) s = record { reply = inferredReply (wordsTo s n) 1024; frames = n }
+onRead (read.Lines n) s = record { reply = verdictUnder Inferred [] (wordsTo s n); frames = n }
 onRead (read.Refused r) s = record { reply = reply.Refused r; frames = 0 }
 
 unfoldable pub textJudged : List ℕ → TextJudged
 textJudged s = onRead (scanned s) s
 
--- "The small program does the same": it reads 36,865 bytes of its input at most, and these decide what the planner's call would answer of all.
+-- "The small program does the same": it reads at most one byte more than a text may have, and these decide what the planner's call would
+-- answer of all.
 abbrev pub FirstBytesDecideAnswers : Type 0
-FirstBytesDecideAnswers = (s : List ℕ) → textJudged (take 36865 s) ≡ textJudged s
+FirstBytesDecideAnswers = (s : List ℕ) → textJudged (take (mostBytes + 1) s) ≡ textJudged s
 
 -- The places of a reply are held whole by its line.
 pub record PlacesFit (f : Fields) : Type 0 where
@@ -45,5 +50,5 @@ pub record PlacesFit (f : Fields) : Type 0 where
 abbrev pub RepliesFit : Type 0
 RepliesFit =
     ((s : List ℕ) → PlacesFit (replyFields (textJudged s .reply) (textJudged s .frames)))
-    × ((list ws : List ℕ) → PlacesFit (replyFields (declaredReply list ws) (length ws)))
+    × ((j : Judgement) (list ws : List ℕ) → PlacesFit (replyFields (verdictUnder j list ws) (length ws)))
     × ((ws : List ℕ) (n : ℕ) → PlacesFit (replyFields (inferredReply ws n) (length ws)))

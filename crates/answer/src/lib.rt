@@ -1,12 +1,13 @@
 // What the functions for C programs share: a refusal as one number, a verdict line with its kind, the verdict on a text.
 use frame::Refused;
+use guards::Judgement;
 use reply::Reply;
 use text::ReadReply;
 ghost use mathlib.Core.Path.{_≡_};
 ghost use mathlib.Core.List.{_++_};
 ghost use Prim.Native.Nat.{_≤_};
 ghost use lib.ListN.{length, drop};
-ghost use Rattle.line.specs.Line.{verdictLine};
+ghost use Rattle.line.specs.Line.{lineLength, verdictLine};
 ghost use Rattle.answer.specs.Answer.{packed, replyKind, textJudged};
 
 // The reply to a text, and its number of frames where it is read.
@@ -24,11 +25,11 @@ pub fn pack(r: Refused) -> u64
     (number as u64) * 4294967296 + (r.place as u64)
 }
 
-// The verdict line of a reply, in the first 33 bytes, and its kind.
+// The verdict line of a reply, at the front of a buffer, and its kind.
 pub fn answer(line: &mut [u8], r: Reply, frames: u32) -> u8
-    requires { ⌜ 33 ≤ length (now line) ⌝ }
+    requires { ⌜ lineLength ≤ length (now line) ⌝ }
     ensures kind { λ k. ⌜ k ≡ replyKind r ⌝ }
-    ensures contents { λ k. ⌜ now (line .exit) ≡ verdictLine r frames ++ drop 33 (now (line .entry)) ⌝ }
+    ensures contents { λ k. ⌜ now (line .exit) ≡ verdictLine r frames ++ drop lineLength (now (line .entry)) ⌝ }
 {
     let f = line::reply_fields(r, frames);
     let l = line::fields_line(f);
@@ -40,12 +41,12 @@ pub fn answer(line: &mut [u8], r: Reply, frames: u32) -> u8
 pub fn judge_text(text: &[u8]) -> TextJudged
     ensures { λ r. ⌜ r ≡ textJudged (now (text .entry)) ⌝ }
 {
-    let mut words = [0u32; 4096];
+    let mut words = [0u32; frame::MOST];
     let q = text::read_into(text, &mut words);
     match q {
         ReadReply::Lines(n) => {
             let k = n as usize;
-            let r = verdict::inferred_reply(&words[..k]);
+            let r = verdict::judge(Judgement::Inferred, b"", &words[..k]);
             TextJudged {
                 reply: r,
                 frames: n,

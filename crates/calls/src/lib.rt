@@ -1,9 +1,19 @@
 // The calls of a test program's cases, with the buffers that are lent to them. What a call left is written: the kind and the line buffer, or a
 // number in 16 digits; then the words or sets that the case asks for.
+use frame::MOST;
+use frame::VARIABLES;
 use libc::STDOUT_FILENO;
+use line::LINE;
 ghost use mathlib.Core.Path.{_≡_};
-ghost use Prim.Native.Nat.{_≤_};
+ghost use Prim.Native.Nat.{_+_, _≤_};
 ghost use lib.ListN.{length};
+ghost use Rattle.frame.specs.Limits.{variableCount, mostFrames};
+ghost use Rattle.line.specs.Line.{lineLength};
+
+// The words and sets of the buffers: one more than a recording or a table may have.
+const WORDS: usize = MOST + 1;
+
+const SETS: usize = VARIABLES + 1;
 
 // Written where a case cannot be read.
 pub fn bad() {
@@ -30,22 +40,22 @@ fn option(options: &[usize; 256], letter: u8, usual: usize, most: usize) -> usiz
     }
 }
 
-fn word_room() -> [u32; 4097]
-    ensures { λ r. ⌜ 4097 ≡ length r ⌝ }
+fn word_room() -> [u32; WORDS]
+    ensures { λ r. ⌜ mostFrames + 1 ≡ length r ⌝ }
 {
-    [9; 4097]
+    [9; WORDS]
 }
 
-fn set_room() -> [u64; 1025]
-    ensures { λ r. ⌜ 1025 ≡ length r ⌝ }
+fn set_room() -> [u64; SETS]
+    ensures { λ r. ⌜ variableCount + 1 ≡ length r ⌝ }
 {
-    [9; 1025]
+    [9; SETS]
 }
 
-fn line_room() -> [u8; 34]
-    ensures { λ r. ⌜ 34 ≡ length r ⌝ }
+fn line_room() -> [u8; LINE + 1]
+    ensures { λ r. ⌜ lineLength + 1 ≡ length r ⌝ }
 {
-    [b'-'; 34]
+    [b'-'; LINE + 1]
 }
 
 // A recording as words, and how many of them are lent.
@@ -63,8 +73,8 @@ fn load(options: &[usize; 256], text: &[u8], words: &mut [u32]) -> usize
 
 // The words or sets that a case asks for, of which one is lent.
 fn look(options: &[usize; 256], words: &[u32], sets: &[u64]) {
-    let from = option(options, b'@', 0, 4096);
-    for k in from..from + option(options, b'n', 0, 4096) {
+    let from = option(options, b'@', 0, MOST);
+    for k in from..from + option(options, b'n', 0, MOST) {
         if k < sets.len() {
             number(sets[k]);
         } else if k < words.len() {
@@ -138,9 +148,9 @@ fn lend(letter: u8, options: &[usize; 256], text: &[u8]) {
     let mut words = word_room();
     let mut sets = set_room();
     let mut line = line_room();
-    let w = option(options, b'w', 4096, 4097);
-    let s = option(options, b's', 1024, 1025);
-    let l = option(options, b'l', 33, 34);
+    let w = option(options, b'w', MOST, WORDS);
+    let s = option(options, b's', VARIABLES, SETS);
+    let l = option(options, b'l', LINE, LINE + 1);
     call(
         letter,
         options,
@@ -156,7 +166,7 @@ pub fn run(letter: u8, options: &[u8], text: &[u8]) {
     let options = cases::read_options(options);
     option(&options, b' ', 0, 0);
     option(&options, 0, 0, 0);
-    let times = option(&options, b'x', 1, 4097);
+    let times = option(&options, b'x', 1, WORDS);
     let mut room = io::large_buffer();
     let n = cases::expand(text, times, &mut room);
     if n == room.len() {

@@ -8,7 +8,7 @@ use borrow.Author.Tests.{eq-eqb, ne-eqb}
 use lib.Dec.{eqb}
 use lib.ListN.{length, drop, getD, drop-of-length-le}
 use lib.Seq.{drop-cons}
-use Rattle.frame.proofs.Shared.{never}
+use Rattle.laws.proofs.Logic.{never}
 use Rattle.command.specs.Command.{same}
 
 -- texts that are the same have one length

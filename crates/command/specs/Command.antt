@@ -1,8 +1,10 @@
 -- What the words of a command line ask for.
+-- Quotes are from docs/TOOL.md.
 use Prim.Native.Nat.{ℕ}
 use mathlib.Core.Bool.{Bool, true, false, cond}
 use mathlib.Core.List.{List, [], _∷_}
 use lib.Dec.{eqb, ltb}
+use Rattle.guards.specs.declared.Judgement.the-variants.{Declared, Inferred}
 use Rattle.output.specs.Output.{bytes}
 use Rattle.command.specs.declared.Command.{Command}
 use Rattle.command.specs.declared.Command.the-variants as command
@@ -23,11 +25,11 @@ commandOf w =
     (cond (same w (bytes "explain")) command.Explain
     (cond (same w (bytes "equal")) command.Equal command.Unknown)))
 
--- "RECORDING" or "RECORDING --guards LIST": n words in all, the program's name and the command among them.
+-- "RECORDING [--guards LIST]": n words in all, the program's name and the command among them.
 unfoldable pub judging : Command → ℕ → List ℕ → Request
 judging c n option =
-    cond (eqb n 3) (request.Judge c false)
-    (cond (eqb n 5) (cond (same option (bytes "--guards")) (request.Judge c true) (request.Misused c)) (request.Misused c))
+    cond (eqb n 3) (request.Judge c Inferred)
+    (cond (eqb n 5) (cond (same option (bytes "--guards")) (request.Judge c Declared) (request.Misused c)) (request.Misused c))
 
 abbrev pub requested : Command → ℕ → List ℕ → Request
 requested command.Verdict n option = judging command.Verdict n option

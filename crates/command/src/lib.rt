@@ -1,4 +1,5 @@
 // What the words of a command line ask for.
+use guards::Judgement;
 ghost use mathlib.Core.Path.{_≡_};
 ghost use Rattle.output.specs.Output.{bytes};
 ghost use Rattle.command.specs.Command.{same as sameText, commandOf, judging, requestOf};
@@ -11,12 +12,12 @@ pub enum Command {
     Unknown,
 }
 
-// Help, no such command, a command with the wrong words, a judgement with declared guards or without, or a comparison.
+// Help, no such command, a command with the wrong words, a judgement, or a comparison.
 pub enum Request {
     Help,
     Unknown,
     Misused(Command),
-    Judge(Command, bool),
+    Judge(Command, Judgement),
     Compare,
 }
 
@@ -60,11 +61,11 @@ fn judge(c: Command, n: usize, option: &[u8]) -> Request
     ensures { λ r. ⌜ r ≡ judging c n (now (option .entry)) ⌝ }
 {
     if n == 3 {
-        return Request::Judge(c, false);
+        return Request::Judge(c, Judgement::Inferred);
     }
     if n == 5 {
         if same(option, b"--guards") {
-            return Request::Judge(c, true);
+            return Request::Judge(c, Judgement::Declared);
         }
     }
     Request::Misused(c)

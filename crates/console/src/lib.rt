@@ -2,17 +2,19 @@
 use command::Command;
 use command::Request;
 use libc::STDOUT_FILENO;
+use text::MOST_BYTES;
 ghost use mathlib.Core.Path.{_≡_};
 ghost use Prim.Native.Nat.{_+_, _≤_};
 ghost use lib.ListN.{length};
+ghost use Rattle.text.specs.Text.{mostBytes};
 
-// The bytes of a buffer: 4,096 lines of nine, and one more. A file's bytes behind them change no answer: one of those lines or that byte
-// refuses a text, and line 1,024 at the latest a guard list. Every answer fits too.
-pub const ROOM: usize = 36865;
+// The bytes of a buffer: as many as a text may have, and one more. A file's bytes behind them change no answer: one of the lines before or that
+// byte refuses a text, and a line before it a guard list. Every answer fits too.
+pub const ROOM: usize = MOST_BYTES + 1;
 
 // A buffer for a file or for what is printed: zeros, of which a caller's proof knows the number alone.
 pub fn room() -> [u8; ROOM]
-    ensures { λ r. ⌜ 36865 ≡ length r ⌝ }
+    ensures { λ r. ⌜ mostBytes + 1 ≡ length r ⌝ }
 {
     [0; ROOM]
 }

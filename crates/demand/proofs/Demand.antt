@@ -9,7 +9,10 @@ use native.Mathlib.Omega.{arith}
 use borrow.Author.Tests.{ltb-true, ltb-false}
 use lib.Dec.{ltb}
 use lib.ListN.{length}
-use Rattle.frame.proofs.Shared.{never}
+use Rattle.frame.specs.Refusal.{refusedAt}
+use Rattle.pass.specs.Pass.{judgeFrom, startJudging, fullSets, judgement, openAtEnd}
+use Rattle.turn.specs.Turn.{judgeFrame}
+use Rattle.laws.proofs.Logic.{never}
 use Rattle.frame.specs.Frame.{decodeWord}
 use Rattle.frame.specs.declared.Frame.{Frame}
 use Rattle.frame.specs.declared.Decoded.the-variants as decoded
@@ -17,7 +20,8 @@ use Rattle.frame.specs.declared.Refused.{Refused}
 use Rattle.frame.specs.declared.Refusal.the-variants as refusal
 use Rattle.guards.specs.declared.GuardsReply.{GuardsReply}
 use Rattle.guards.specs.declared.GuardsReply.the-variants as guards
-use Rattle.guards.specs.Guards.{guardsRead}
+use Rattle.guards.specs.Guards.{guardsUnder}
+use Rattle.guards.specs.declared.Judgement.{Judgement}
 use Rattle.soundness.proofs.Laws.{check-short, sound-fits, sound-first}
 use Rattle.soundness.specs.Soundness.{State, stepped, stepFrame, checkFrom, checkReply, start}
 use Rattle.soundness.specs.declared.CheckReply.{CheckReply}
@@ -31,9 +35,7 @@ use Rattle.reply.specs.declared.Reply.the-variants as reply
 use Rattle.reply.specs.declared.Verdict.{Verdict}
 use Rattle.reply.specs.declared.Verdict.the-variants as verdict
 use Rattle.instrumented.specs.Rules.{Judging}
-use Rattle.pass.specs.Pass.{judgeFrame, judgeFrom, startJudging, fullSets, judgement}
 use Rattle.pass.proofs.Judgement.{judgement-sound}
-use Rattle.verdict.specs.Verdict.{inferredGuards}
 use Rattle.rules.specs.Choice.{Reducible}
 use Rattle.exchange.proofs.Sound.{exchanges-sound}
 use Rattle.exchange.specs.Exchange.{Exchanges, independentWords}
@@ -41,11 +43,10 @@ use Rattle.equal.proofs.Exchanges.{equal-is-exchanges}
 use Rattle.equal.specs.Equal.{afterChecks, equalWords, equalReply}
 use Rattle.equal.specs.declared.EqualReply.the-variants as equal
 use Rattle.serial.specs.Order.{serialWords, Closed}
-use Rattle.serial.specs.Walk.{endPoint, firstOpen}
 use Rattle.orderlaws.proofs.Order.{order-exchanges, order-contiguous, closed-open}
 use Rattle.orderlaws.proofs.Open.{none-closed, first-open}
 use Rattle.order.specs.Order as asked-for
-use Rattle.order.specs.Order.{refused, reducibleReply, closedReply, orderReply, outAfter, orderOut, onList, declaredOrder, declaredOut, inferredOrder, inferredOut}
+use Rattle.order.specs.Order.{reducibleReply, closedReply, orderReply, outAfter, onList, orderUnder, outUnder}
 use Rattle.order.specs.declared.OrderReply.{OrderReply}
 use Rattle.order.specs.declared.OrderReply.the-variants as order
 use Rattle.demand.specs.Demand.{Sound, RefusedBy, in-list, in-recording, irreducible, still-open, no-room, Asked, ThirdTerm}
@@ -122,18 +123,18 @@ module _ (list : GuardsReply) (table ws out : List ℕ) where
   -- a list that is read
   module _ (n : ℕ) (read : list ≡ guards.Lines n) where
     by-room : (b : Bool) → ltb (length out) (length ws) ≡ b → Reducible table ws → Closed ws
-        → AskedBy (cond b (refused refusal.OutputBuffer (length ws)) (order.Written (length ws)))
+        → AskedBy (cond b (order.Refused (refusedAt refusal.OutputBuffer (length ws))) (order.Written (length ws)))
     by-room true q r c = is-refused _ (no-room read r c (ltb-true (length out) (length ws) q))
     by-room false q r c = is-written (n, read, r, c, ltb-false (length out) (length ws) q)
 
-    by-mark : (m : Mark) → firstOpen (endPoint table ws) ≡ m → Reducible table ws → AskedBy (closedReply m (length ws) (length out))
+    by-mark : (m : Mark) → openAtEnd (judgement table fullSets ws) ≡ m → Reducible table ws → AskedBy (closedReply m (length ws) (length out))
     by-mark (At b) q r = is-refused _ (still-open read r (first-open table ws r b q))
     by-mark Absent q r = by-room (ltb (length out) (length ws)) refl r (closed-open table ws r q)
 
     by-reply : (q : Reply) → judgement table fullSets ws .reply ≡ q
-        → AskedBy (cond (reducibleReply q) (closedReply (firstOpen (endPoint table ws)) (length ws) (length out)) (asked-for.irreducible q))
+        → AskedBy (cond (reducibleReply q) (closedReply (openAtEnd (judgement table fullSets ws)) (length ws) (length out)) (asked-for.irreducible q))
     by-reply (reply.Refused x) e = is-refused x (in-recording read (judgement-refused table ws x e))
-    by-reply (reply.Judged verdict.Reducible) e = by-mark (firstOpen (endPoint table ws)) refl e
+    by-reply (reply.Judged verdict.Reducible) e = by-mark (openAtEnd (judgement table fullSets ws)) refl e
     by-reply (reply.Judged (verdict.Violated v)) e = is-refused _ (irreducible read e)
 
     when-read : AskedBy (orderReply table ws (length out))
@@ -144,20 +145,15 @@ asked : (list : GuardsReply) (table ws out : List ℕ) → AskedBy list table ws
 asked (guards.Lines n) table ws out = when-read (guards.Lines n) table ws out n refl
 asked (guards.Refused x) table ws out = is-refused (guards.Refused x) table ws out x (in-list refl)
 
-asked-declared : (list ws out : List ℕ)
-    → Asked (guardsRead list .reply) (guardsRead list .table) ws out (declaredOrder list ws (length out)) (declaredOut list ws out)
-unfolding declaredOrder declaredOut
-asked-declared list ws out = asked (guardsRead list .reply) (guardsRead list .table) ws out
-
-asked-inferred : (ws out : List ℕ) → Asked (guards.Lines 0) inferredGuards ws out (inferredOrder ws (length out)) (inferredOut ws out)
-unfolding inferredOrder inferredOut orderOut
-asked-inferred ws out = asked (guards.Lines 0) inferredGuards ws out
+asked-for-order : (j : Judgement) (list ws out : List ℕ)
+    → Asked (guardsUnder j list .reply) (guardsUnder j list .table) ws out (orderUnder j list ws (length out)) (outUnder j list ws out)
+unfolding orderUnder outUnder
+asked-for-order j list ws out = asked (guardsUnder j list .reply) (guardsUnder j list .table) ws out
 
 -- The third term.
 pub third-term : ThirdTerm
 third-term = (
   equal-exactly,
   λ table ws r c. (order-equal table ws r c, order-contiguous table ws r c),
-  asked-declared,
-  asked-inferred,
+  asked-for-order,
 )

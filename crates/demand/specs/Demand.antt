@@ -1,14 +1,17 @@
 -- The third term: one claim over whole recordings, about the definitions that the calls' contracts cite. What `equal::equal` answers is
--- `equalReply`; what `order::declared` and `order::inferred` answer and leave in the output is `declaredOrder`, `declaredOut`,
--- `inferredOrder`, `inferredOut`. In this order: a request for the serial order, its refusal and its answer; the term.
+-- `equalReply`; what `order::order` answers and leaves in the output is `orderUnder`, `outUnder`. In this order: a request for the serial
+-- order, its refusal and its answer; the term.
+-- Quotes are from docs/FORMAT.md.
 use Prim.Native.Nat.{ℕ, _≤_, _<_}
 use mathlib.Core.Path.{_≡_}
 use mathlib.Core.Logic.{_↔_}
 use mathlib.Core.List.{List, _++_}
 use lib.ListN.{length, drop}
+use Rattle.frame.specs.Refusal.{refusedAt}
 use Rattle.frame.specs.declared.Refused.{Refused}
 use Rattle.frame.specs.declared.Refusal.the-variants as refusal
-use Rattle.guards.specs.Guards.{guardsRead}
+use Rattle.guards.specs.Guards.{guardsUnder}
+use Rattle.guards.specs.declared.Judgement.{Judgement}
 use Rattle.guards.specs.declared.GuardsReply.{GuardsReply}
 use Rattle.guards.specs.declared.GuardsReply.the-variants as guards
 use Rattle.soundness.specs.Soundness.{checkReply}
@@ -16,13 +19,12 @@ use Rattle.soundness.specs.declared.CheckReply.the-variants as check
 use Rattle.reply.specs.Reply.{violated}
 use Rattle.reply.specs.declared.Violation.{Violation}
 use Rattle.pass.specs.Pass.{fullSets, judgement}
-use Rattle.verdict.specs.Verdict.{inferredGuards}
 use Rattle.rules.specs.Choice.{Reducible}
 use Rattle.exchange.specs.Exchange.{Exchanges, independentWords}
 use Rattle.equal.specs.Equal.{equalReply}
 use Rattle.equal.specs.declared.EqualReply.the-variants as equal
 use Rattle.serial.specs.Order.{serialWords, Closed, FirstOpen, Contiguous}
-use Rattle.order.specs.Order.{refused, declaredOrder, declaredOut, inferredOrder, inferredOut}
+use Rattle.order.specs.Order.{orderUnder, outUnder}
 use Rattle.order.specs.declared.OrderReply.{OrderReply}
 use Rattle.order.specs.declared.OrderReply.the-variants as order
 
@@ -31,16 +33,16 @@ Sound ws = checkReply ws ≡ check.Sound
 
 -- A request for the serial order of ws into the output `out`. `list` is what reading the guard list answers, `table` the guards.
 module _ (list : GuardsReply) (table ws out : List ℕ) where
-  -- It is refused by the table of refusals, in the table's order: each where none before it is met.
+  -- It is refused by the table of refusals, in the order of the tests: each where none before it is met.
   pub data RefusedBy : OrderReply → Type 0 where
     in-list : {x : Refused} → list ≡ guards.Refused x → RefusedBy (order.Refused x)
     in-recording : {n : ℕ} {x : Refused} → list ≡ guards.Lines n → checkReply ws ≡ check.Refused x → RefusedBy (order.Refused x)
     -- "13: not reducible; violating frame"
-    irreducible : {n : ℕ} {v : Violation} → list ≡ guards.Lines n → judgement table fullSets ws .reply ≡ violated v → RefusedBy (refused refusal.Irreducible (v .frame))
+    irreducible : {n : ℕ} {v : Violation} → list ≡ guards.Lines n → judgement table fullSets ws .reply ≡ violated v → RefusedBy (order.Refused (refusedAt refusal.Irreducible (v .frame)))
     -- "14: a block still open at the end; smallest place of an open outermost begin"
-    still-open : {n b : ℕ} → list ≡ guards.Lines n → Reducible table ws → FirstOpen ws b → RefusedBy (refused refusal.OpenBlock b)
+    still-open : {n b : ℕ} → list ≡ guards.Lines n → Reducible table ws → FirstOpen ws b → RefusedBy (order.Refused (refusedAt refusal.OpenBlock b))
     -- "15: output shorter than the recording; its length"
-    no-room : {n : ℕ} → list ≡ guards.Lines n → Reducible table ws → Closed ws → length out < length ws → RefusedBy (refused refusal.OutputBuffer (length ws))
+    no-room : {n : ℕ} → list ≡ guards.Lines n → Reducible table ws → Closed ws → length out < length ws → RefusedBy (order.Refused (refusedAt refusal.OutputBuffer (length ws)))
 
   -- Its reply r, and what is left in the output: "the reply is that length", and the order; or a refusal, which changes nothing.
   pub record Asked (r : OrderReply) (left : List ℕ) : Type 0 where
@@ -55,5 +57,5 @@ ThirdTerm =
     ((left right : List ℕ) → equalReply left right ≡ equal.Equal ↔ Sound left × Sound right × Exchanges independentWords left right)
     × ((table ws : List ℕ) → Reducible table ws → Closed ws
     → (equalReply ws (serialWords table ws) ≡ equal.Equal) × Contiguous (λ t. 0) (serialWords table ws))
-    × ((list ws out : List ℕ) → Asked (guardsRead list .reply) (guardsRead list .table) ws out (declaredOrder list ws (length out)) (declaredOut list ws out))
-    × ((ws out : List ℕ) → Asked (guards.Lines 0) inferredGuards ws out (inferredOrder ws (length out)) (inferredOut ws out))
+    × ((j : Judgement) (list ws out : List ℕ)
+    → Asked (guardsUnder j list .reply) (guardsUnder j list .table) ws out (orderUnder j list ws (length out)) (outUnder j list ws out))

@@ -1,5 +1,5 @@
 -- Laws of lines of eight digits.
-use Prim.Native.Nat.{ℕ, _+_, _-_, _≤_, _<_}
+use Prim.Native.Nat.{ℕ, _+_, _-_, _≤_}
 use mathlib.Core.Path.{_≡_, refl}
 use mathlib.Core.Bool.{Bool, true, false}
 use mathlib.Core.List.{List}
@@ -7,9 +7,8 @@ use native.Mathlib.Omega.{arith}
 use lib.ListN.{length, getD, take, drop}
 use lib.Dec.{ltb, eqb}
 use borrow.Author.Tests.{ltb-false, eqb-true}
-use Rattle.frame.proofs.Shared.{never}
+use Rattle.laws.proofs.Logic.{never}
 use Rattle.digits.specs.Digits.{Digits, value, none, digitsValue, lineWord, lineOf}
-use Rattle.digits.proofs.Sums.{word-bound}
 use Rattle.digits.specs.declared.Line.{Line}
 use Rattle.digits.specs.declared.Line.the-variants as line
 
@@ -37,7 +36,3 @@ shown s at w e = go (ltb (length s - at) 9) refl (eqb (getD s (at + 8) 0) 10) re
           linefeed = eqb-true (getD s (at + 8) 0) 10 r;
           digits = same-word (digitsValue 0 (take 8 (drop at s))) w (rw (q, r) at e);
         }
-
--- a word is below 2^32
-pub line-bound : (s : List ℕ) (at w : ℕ) → lineOf s at ≡ line.Word w → w < 4294967296
-line-bound s at w e = let h = shown s at w e in word-bound s at w (omega arith) (h .digits)

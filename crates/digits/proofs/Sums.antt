@@ -10,7 +10,7 @@ use lib.ListN.{length, getD, take, drop, length-take, length-drop}
 use lib.Seq.{drop-cons}
 use lib.Dec.{ltb}
 use borrow.Author.Tests.{lt-ltb, le-ltb, ltb-false}
-use Rattle.frame.proofs.Shared.{never}
+use Rattle.laws.proofs.Logic.{never}
 use Rattle.digits.specs.Digits.{Digits, value, none, digitOf, valueOf, digitsValue, digitsOfSum}
 
 -- values of bytes added up after v, top digit first

@@ -1,8 +1,10 @@
--- What digits and a line of eight of them say. In this order: digits, the values that the code adds up, one line.
-use Prim.Native.Nat.{ℕ, _+_, _-_, _*_, _<_}
+-- What digits and a line of eight of them say, and how they are written. In this order: digits read, the values that the code adds up, one
+-- line read; digits written, one line written; the claims that reading and writing undo each other, over any number of digits.
+-- Quotes are from docs/FORMAT.md.
+use Prim.Native.Nat.{ℕ, zero, suc, _+_, _-_, _*_, _/_, _%_, _^_, _<_}
 use mathlib.Core.Path.{_≡_}
 use mathlib.Core.Bool.{cond}
-use mathlib.Core.List.{List, [], _∷_}
+use mathlib.Core.List.{List, [], _∷_, _++_}
 use lib.ListN.{length, getD, take, drop}
 use lib.Dec.{ltb, eqb}
 use Rattle.digits.specs.declared.Line.{Line}
@@ -43,3 +45,32 @@ lineOf s at =
 -- Eight digits whose values add up to v: from 2^32 on, one of them is none.
 abbrev pub digitsOfSum : ℕ → Digits
 digitsOfSum v = cond (ltb 4294967295 v) none (value v)
+
+-- The digit 0-9 A-F of a value below 16.
+unfoldable pub byteOf : ℕ → ℕ
+byteOf v = cond (ltb v 10) (v + 48) (v + 55)
+
+-- The low n digits of v, top digit first.
+unfoldable pub digits : ℕ → ℕ → List ℕ
+digits zero v = []
+digits (suc n) v = digits n (v / 16) ++ (byteOf (v % 16) ∷ [])
+
+-- A buffer with n of its bytes replaced from a place on.
+abbrev pub pasted : List ℕ → ℕ → ℕ → List ℕ → List ℕ
+pasted s at n xs = take at s ++ (xs ++ drop (at + n) s)
+
+-- "On a line it is eight digits 0-9 A-F, top digit first, then one LF": the line of a word.
+unfoldable pub wordLine : ℕ → List ℕ
+wordLine w = digits 8 w ++ (10 ∷ [])
+
+-- The least number that n digits cannot hold.
+abbrev pub tooWide : ℕ → ℕ
+tooWide n = 16 ^ n
+
+-- What is written reads back: n digits of a value that they hold have that value.
+abbrev pub WrittenDigitsRead : Type 0
+WrittenDigitsRead = (n v : ℕ) → v < tooWide n → digitsValue 0 (digits n v) ≡ value v
+
+-- What was read is written again: bytes that have a value are its digits, and so many digits hold it.
+abbrev pub ReadDigitsWrite : Type 0
+ReadDigitsWrite = (bs : List ℕ) (v : ℕ) → digitsValue 0 bs ≡ value v → (digits (length bs) v ≡ bs) × (v < tooWide (length bs))

@@ -1,8 +1,8 @@
-// Lines of eight digits: the value of each digit, the word of a line.
+// Digits read and written: the value of each digit, the word of a line; the digits of a value, the line of a word.
 ghost use mathlib.Core.Path.{_≡_};
 ghost use Prim.Native.Nat.{_+_, _*_, _≤_, _<_};
 ghost use lib.ListN.{length, take, drop};
-ghost use Rattle.digits.specs.Digits.{Values, valueOf, digitsValue, lineOf, digitsOfSum};
+ghost use Rattle.digits.specs.Digits.{Values, valueOf, digitsValue, lineOf, digitsOfSum, byteOf, digits, pasted, wordLine};
 
 // The word of a line, or that the line is not eight digits and an LF.
 pub enum Line {
@@ -71,4 +71,38 @@ pub fn read_line(t: &[u64; 256], s: &[u8], at: usize) -> Line
         return Line::Malformed;
     }
     Line::Word(v as u32)
+}
+
+// The digit of a value below 16.
+fn digit_byte(v: u8) -> u8
+    requires { ⌜ v < 16 ⌝ }
+    ensures { λ r. ⌜ r ≡ byteOf v ⌝ }
+{
+    if v < 10 {
+        return v + 48;
+    }
+    v + 55
+}
+
+// The low digits of a value, written at a place of a buffer.
+pub fn put(out: &mut [u8], at: usize, width: usize, value: u64)
+    requires { ⌜ at + width ≤ length (now out) ⌝ }
+    ensures { λ r. ⌜ now (out .exit) ≡ pasted (now (out .entry)) at width (digits width value) ⌝ }
+{
+    let mut v = value;
+    let mut k = width;
+    while 0 < k {
+        k -= 1;
+        out[at + k] = digit_byte((v % 16) as u8);
+        v = v / 16;
+    }
+}
+
+// The line of a word.
+pub fn word_line(w: u32) -> [u8; 9]
+    ensures { λ l. ⌜ l ≡ wordLine w ⌝ }
+{
+    let mut line = [10u8; 9];
+    put(&mut line, 0, 8, w as u64);
+    line
 }

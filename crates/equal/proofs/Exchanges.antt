@@ -6,8 +6,7 @@ use mathlib.Core.Bool.{Bool, true, false, false≢true}
 use mathlib.Core.List.{List}
 use borrow.Author.Tests.{eqb-true, eq-eqb}
 use lib.Dec.{eqb}
-use lib.ListN.{length}
-use Rattle.frame.proofs.Shared.{never}
+use Rattle.laws.proofs.Logic.{never}
 use Rattle.frame.specs.Frame.{decodeWord}
 use Rattle.frame.specs.declared.Decoded.{Decoded}
 use Rattle.frame.specs.declared.Decoded.the-variants as decoded

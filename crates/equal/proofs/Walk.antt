@@ -6,11 +6,13 @@ use mathlib.Core.Bool.{Bool, true, false, cond, false≢true}
 use mathlib.Core.List.{List, _∷_}
 use native.Mathlib.Omega.{arith}
 use native.Mathlib.Numerals.{add-one}
-use borrow.Author.Tests.{eqb-true, eqb-false}
+use borrow.Author.Tests.{eqb-true}
 use lib.Dec.{eqb}
 use lib.ListN.{length, getD, set, drop, replicate, length-set, drop-of-length-le}
-use lib.Seq.{getD-set-same, getD-set-other, drop-cons}
-use Rattle.frame.proofs.Shared.{either, getD-filled}
+use lib.Seq.{drop-cons}
+use Rattle.frame.specs.Limits.{threadCount, lockCount, variableCount}
+use Rattle.laws.proofs.Logic.{either}
+use Rattle.laws.proofs.Lists.{getD-filled, getD-stored}
 use Rattle.frame.proofs.Laws.{decoded-in-range}
 use Rattle.frame.specs.Frame.{decodeWord, ObjectInRange, InRange}
 use Rattle.frame.specs.declared.Action.{Action}
@@ -24,39 +26,31 @@ use Rattle.exchange.specs.Exchange.{Exchanges, frameIn, frameOf}
 use Rattle.soundness.specs.Soundness.{checkReply}
 use Rattle.equal.specs.declared.EqualReply.the-variants.{Equal, Different}
 use Rattle.equal.specs.Equal.{sound, equalWords, yesOrNo}
-use Rattle.matching.specs.Places.{threadOf, wordAt, FoundIn, Lasts, lastsOf, lastAt, markAt}
+use Rattle.matching.specs.Places.{threadOf, wordAt, FoundIn, Lasts, lastsOf, lastAt, withLast}
 use Rattle.equal.proofs.Exchanges.{yes, no}
 
--- A store in an array, and what is read of it then.
-stored : (l : List ℕ) (k j q : ℕ) → k < length l → getD (set l k q) j 0 ≡ cond (eqb k j) q (getD l j 0)
-stored l k j q h = go (eqb k j) refl
-  where
-    go : (b : Bool) → eqb k j ≡ b → getD (set l k q) j 0 ≡ cond b q (getD l j 0)
-    go true e = rw (← eqb-true k j e) (getD-set-same l k q 0 h)
-    go false e = getD-set-other l k j q 0 (λ z. eqb-false k j e (sym z))
-
 pub record Sized (c : Lasts) : Type 0 where
-  pub locks : length (c .locks) ≡ 64
-  pub variables : length (c .variables) ≡ 1024
+  pub locks : length (c .locks) ≡ lockCount
+  pub variables : length (c .variables) ≡ variableCount
 
-marked-size : (n : Named) (q : ℕ) (c : Lasts) → Sized c → Sized (markAt n q c)
-marked-size (lock m) q c s = record { locks = simp length-set (s .locks); variables = s .variables }
-marked-size (variable x) q c s = record { locks = s .locks; variables = simp length-set (s .variables) }
-marked-size neither q c s = s
+noted-size : (n : Named) (q : ℕ) (c : Lasts) → Sized c → Sized (withLast n q c)
+noted-size (lock m) q c s = record { locks = simp length-set (s .locks); variables = s .variables }
+noted-size (variable x) q c s = record { locks = s .locks; variables = simp length-set (s .variables) }
+noted-size neither q c s = s
 
 abbrev Within : Named → Type 0
-Within (lock m) = m .0 < 64
-Within (variable x) = x .0 < 1024
+Within (lock m) = m .0 < lockCount
+Within (variable x) = x .0 < variableCount
 Within neither = Unit {0}
 
-marked : (n : Named) (q : ℕ) (c : Lasts) → Sized c → Within n → (o : Named) → lastAt o (markAt n q c) ≡ cond (sameNamed n o) q (lastAt o c)
-marked (lock m) q c s h (lock k) = stored (c .locks) (m .0) (k .0) q (omega (arith, s .locks))
-marked (lock m) q c s h (variable y) = refl
-marked (lock m) q c s h neither = refl
-marked (variable x) q c s h (lock k) = refl
-marked (variable x) q c s h (variable y) = stored (c .variables) (x .0) (y .0) q (omega (arith, s .variables))
-marked (variable x) q c s h neither = refl
-marked neither q c s h o = refl
+noted : (n : Named) (q : ℕ) (c : Lasts) → Sized c → Within n → (o : Named) → lastAt o (withLast n q c) ≡ cond (sameNamed n o) q (lastAt o c)
+noted (lock m) q c s h (lock k) = getD-stored (c .locks) (m .0) q (k .0) (omega (arith, s .locks))
+noted (lock m) q c s h (variable y) = refl
+noted (lock m) q c s h neither = refl
+noted (variable x) q c s h (lock k) = refl
+noted (variable x) q c s h (variable y) = getD-stored (c .variables) (x .0) q (y .0) (omega (arith, s .variables))
+noted (variable x) q c s h neither = refl
+noted neither q c s h o = refl
 
 same-last : (n o : Named) (c : Lasts) → sameNamed n o ≡ true → lastAt n c ≡ lastAt o c
 same-last (lock m) (lock k) c e = ap (λ j. getD (c .locks) j 0) (eqb-true (m .0) (k .0) e)
@@ -90,22 +84,22 @@ pub record Walking (l r : List ℕ) (i : ℕ) (ns : List ℕ) (c : Lasts) : Type
   pub within : i ≤ length l
   pub same : Well threadOf clashing (wordAt r) (length r) (nextIn ns) (lastIn c) (drop i l) ↔ Exchanges apart l r
   pub left : length (rest threadOf (wordAt r) (nextIn ns) (length r) 0) + i ≡ length l
-  pub threads : length ns ≡ 32
+  pub threads : length ns ≡ threadCount
   pub starts : (u : ℕ) → nextIn ns u ≤ length r
   pub sized : Sized c
 
-none-last : (n : Named) → lastAt n (lastsOf (replicate 64 0) (replicate 1024 0)) ≡ 0
-none-last (lock m) = getD-filled 64 (m .0) 0
-none-last (variable x) = getD-filled 1024 (x .0) 0
+none-last : (n : Named) → lastAt n (lastsOf (replicate lockCount 0) (replicate variableCount 0)) ≡ 0
+none-last (lock m) = getD-filled lockCount (m .0) 0
+none-last (variable x) = getD-filled variableCount (x .0) 0
 none-last neither = refl
 
-pub walk-start : (l r : List ℕ) → length l ≡ length r → Walking l r 0 (replicate 32 0) (lastsOf (replicate 64 0) (replicate 1024 0))
+pub walk-start : (l r : List ℕ) → length l ≡ length r → Walking l r 0 (replicate threadCount 0) (lastsOf (replicate lockCount 0) (replicate variableCount 0))
 walk-start l r e = record {
   within = omega arith;
-  same = well-start threadOf clashing r 0 _ _ (λ u. getD-filled 32 u 0) (λ w. none-last (named (frameOf w .action))) l;
-  left = rw (rest-all threadOf clashing r 0 (nextIn (replicate 32 0)) (λ w. 0) (λ u. getD-filled 32 u 0) (λ w. refl)) (omega arith);
+  same = well-start threadOf clashing r 0 _ _ (λ u. getD-filled threadCount u 0) (λ w. none-last (named (frameOf w .action))) l;
+  left = rw (rest-all threadOf clashing r 0 (nextIn (replicate threadCount 0)) (λ w. 0) (λ u. getD-filled threadCount u 0) (λ w. refl)) (omega arith);
   threads = refl;
-  starts = λ u. omega (arith, getD-filled 32 u 0);
+  starts = λ u. omega (arith, getD-filled threadCount u 0);
   sized = record { locks = refl; variables = refl };
 }
 
@@ -144,18 +138,18 @@ module _ {l r : List ℕ} {i : ℕ} {ns : List ℕ} {c : Lasts} (k : Walking l r
   range = subst InRange is (decoded-in-range (wordAt l i) f e)
 
   moved : (u : ℕ) → nextIn (set ns (threadOf (wordAt l i)) (suc p)) u ≡ cond (eqb (threadOf (wordAt l i)) u) (suc p) (nextIn ns u)
-  moved u = stored ns (threadOf (wordAt l i)) u (suc p) (omega (arith, k .threads, range .thread))
+  moved u = getD-stored ns (threadOf (wordAt l i)) (suc p) u (omega (arith, k .threads, range .thread))
 
-  raised : lastIn c (wordAt l i) ≤ p → Raised clashing (lastIn c) (lastIn (markAt (named (frameOf (wordAt l i) .action)) (suc p) c)) (wordAt l i) p
+  raised : lastIn c (wordAt l i) ≤ p → Raised clashing (lastIn c) (lastIn (withLast (named (frameOf (wordAt l i) .action)) (suc p) c)) (wordAt l i) p
   raised b g j =
-      rw (marked (named (frameOf (wordAt l i) .action)) (suc p) c (k .sized) (within-named (frameOf (wordAt l i) .action) (range .object)) (named (frameOf g .action)))
+      rw (noted (named (frameOf (wordAt l i) .action)) (suc p) c (k .sized) (within-named (frameOf (wordAt l i) .action) (range .object)) (named (frameOf g .action)))
       (go (clashing (wordAt l i) g) refl)
     where
       go : (x : Bool) → clashing (wordAt l i) g ≡ x → cond x (suc p) (lastIn c g) ≤ j ↔ ((lastIn c g ≤ j) × (clashing (wordAt l i) g ≡ true → p < j))
       go true q = (λ z. (omega (arith, same-last (named (frameOf (wordAt l i) .action)) (named (frameOf g .action)) c q), λ y. z), λ z. z .1 q)
       go false q = (λ z. (z, λ y. absurd (false≢true (sym q ∙ y))), λ z. z .0)
 
-  turn : Fit → Walking l r (suc i) (set ns (threadOf (wordAt l i)) (suc p)) (markAt (named (frameOf (wordAt l i) .action)) (suc p) c)
+  turn : Fit → Walking l r (suc i) (set ns (threadOf (wordAt l i)) (suc p)) (withLast (named (frameOf (wordAt l i) .action)) (suc p) c)
   turn s = record {
     within = h;
     same = (
@@ -165,10 +159,10 @@ module _ {l r : List ℕ} {i : ℕ} {ns : List ℕ} {c : Lasts} (k : Walking l r
     left = omega (arith, k .left, fits-length threadOf clashing (wordAt r) (length r) (nextIn ns) (lastIn c) (wordAt l i) p here s (nextIn (set ns (threadOf (wordAt l i)) (suc p))) moved);
     threads = simp length-set (k .threads);
     starts = λ u. rw (moved u) (either (λ x. x ≤ length r) (eqb (threadOf (wordAt l i)) u) (s .inside) (k .starts u));
-    sized = marked-size (named (frameOf (wordAt l i) .action)) (suc p) c (k .sized);
+    sized = noted-size (named (frameOf (wordAt l i) .action)) (suc p) c (k .sized);
   }
 
-  pub go-on : {c′ : Lasts} → (p ≡ length r → ⊥) → wordAt r p ≡ wordAt l i → lastAt (named (f .action)) c < p + 1 → c′ ≡ markAt (named (f .action)) (p + 1) c
+  pub go-on : {c′ : Lasts} → (p ≡ length r → ⊥) → wordAt r p ≡ wordAt l i → lastAt (named (f .action)) c < p + 1 → c′ ≡ withLast (named (f .action)) (p + 1) c
       → Walking l r (i + 1) (set ns (f .thread .0) (p + 1)) c′
   go-on n q b u =
       rw (u, is, add-one i, add-one p) (turn (record { inside = omega (arith, n, found .within); is = sym q; after = omega (arith, rw is at b) }))

@@ -1,4 +1,5 @@
 -- What the comparison of two recordings answers, and the claim that it is equality up to exchanges.
+-- Quotes are from docs/FORMAT.md.
 use Prim.Native.Nat.{ℕ}
 use mathlib.Core.Path.{_≡_}
 use mathlib.Core.Logic.{_↔_}

@@ -1,6 +1,9 @@
 // Whether two recordings are equal up to exchanges of independent neighbours: the frames of each thread are matched in their order.
 use frame::Decoded;
+use frame::LOCKS;
 use frame::Refused;
+use frame::THREADS;
+use frame::VARIABLES;
 use soundness::CheckReply;
 ghost use mathlib.Core.Path.{_≡_};
 ghost use Rattle.soundness.specs.Soundness.{checkReply};
@@ -27,9 +30,9 @@ fn same(left: &[u32], right: &[u32]) -> EqualReply
     if left.len() != right.len() {
         return EqualReply::Different;
     }
-    let mut next = [0usize; 32];
-    let mut locks = [0u32; 64];
-    let mut variables = [0u32; 1024];
+    let mut next = [0usize; THREADS];
+    let mut locks = [0u32; LOCKS];
+    let mut variables = [0u32; VARIABLES];
     let mut i: usize = 0;
     while i < left.len() {
         let w = left[i];
@@ -54,7 +57,7 @@ fn same(left: &[u32], right: &[u32]) -> EqualReply
         }
         let a = f.action;
         let q = (p + 1) as u32;
-        if !matching::mark(&mut locks, &mut variables, a, q) {
+        if !matching::note_last(&mut locks, &mut variables, a, q) {
             return EqualReply::Different;
         }
         next[t] = p + 1;

@@ -1,4 +1,5 @@
 -- The comparison of two recordings as the tool prints it, written into a lent buffer as far as there is room; the reply is the number of bytes written.
+-- Quotes are from docs/FORMAT.md.
 use Prim.Native.Nat.{ℕ}
 use mathlib.Core.List.{List, []}
 use Rattle.frame.specs.declared.Refused.{Refused}

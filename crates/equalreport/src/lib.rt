@@ -1,6 +1,7 @@
 // The comparison of two recordings as the tool prints it, written into a lent buffer as far as there is room; the reply is the number of bytes written.
 use equal::EqualReply;
 use equal::Side;
+use frame::MOST;
 use frame::Refused;
 use opening::Opened;
 use output::put_text;
@@ -38,7 +39,7 @@ fn put_right(left: &[u32], text: &[u8], out: &mut [u8]) -> usize
     ensures place { λ r. ⌜ r ≡ behind (length (now (out .entry))) 0 (rightOpened (openedRead source.Right (scanned (now (text .entry)))) (now (left .entry)) (now (text .entry))) ⌝ }
     ensures contents { λ r. ⌜ now (out .exit) ≡ written (now (out .entry)) 0 (rightOpened (openedRead source.Right (scanned (now (text .entry)))) (now (left .entry)) (now (text .entry))) ⌝ }
 {
-    let mut words = [0u32; 4096];
+    let mut words = [0u32; MOST];
     let o = opening::open_text(Source::Right, text, &mut words);
     match o {
         Opened::Frames(n) => {
@@ -66,7 +67,7 @@ pub fn equal_report(left: &[u8], right: &[u8], out: &mut [u8]) -> usize
     ensures place { λ r. ⌜ r ≡ behind (length (now (out .entry))) 0 (equalReport (now (left .entry)) (now (right .entry))) ⌝ }
     ensures contents { λ r. ⌜ now (out .exit) ≡ written (now (out .entry)) 0 (equalReport (now (left .entry)) (now (right .entry))) ⌝ }
 {
-    let mut words = [0u32; 4096];
+    let mut words = [0u32; MOST];
     let o = opening::open_text(Source::Left, left, &mut words);
     match o {
         Opened::Frames(n) => {

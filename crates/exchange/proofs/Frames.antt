@@ -81,15 +81,6 @@ pub apart-words : {l r : List ℕ} → AllDecode l → Exchanges apart l r → E
 apart-words d done = done
 apart-words d (step e x) = let q = apart-exchange d e in step (q .0) (apart-words (q .1) x)
 
-exchange-frames : {l r : List ℕ} → Exchange apart l r → Exchange independent (framesOf l) (framesOf r)
-exchange-frames (here i) = here i
-exchange-frames (later e) = later (exchange-frames e)
-
--- exchanges of words are exchanges of their frames
-pub words-frames : {l r : List ℕ} → Exchanges apart l r → Exchanges independent (framesOf l) (framesOf r)
-words-frames done = done
-words-frames (step e x) = step (exchange-frames e) (words-frames x)
-
 abbrev AllInRange : List Frame → Type 0
 AllInRange [] = Unit {0}
 AllInRange (f ∷ fs) = InRange f × AllInRange fs

@@ -15,7 +15,7 @@ use lib.Dec.{eqb, leb, ltb}
 use lib.ListN.{length, getD, drop, drop-of-length-le}
 use lib.Seq.{drop-cons}
 use borrow.Author.Tests.{eqb-true, eqb-false, eq-eqb, ne-eqb, ltb-true, ltb-false, leb-true, leb-false, le-leb, lt-leb}
-use Rattle.frame.proofs.Shared.{from-here}
+use Rattle.laws.proofs.Logic.{from-here}
 use Rattle.exchange.specs.Exchange.{Exchanges, done}
 use Rattle.exchange.specs.Found.{Found}
 use Rattle.exchange.proofs.Exchange.{transitive, first}

@@ -7,7 +7,7 @@ use mathlib.Core.List.{List, [], _∷_}
 use mathlib.Core.Option.{Option, none, some}
 use native.Mathlib.Omega.{arith}
 use lib.ListN.{length}
-use Rattle.frame.proofs.Shared.{never}
+use Rattle.laws.proofs.Logic.{never}
 use Rattle.exchange.specs.Exchange.{Exchange, here, later, Exchanges, done, step}
 use Rattle.exchange.specs.Pull.{behind, ifPulled, pull, pullAll}
 use Rattle.exchange.proofs.Exchange.{transitive, first, exchanges-length}

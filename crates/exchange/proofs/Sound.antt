@@ -6,9 +6,11 @@ use mathlib.Core.Bool.{Bool, true, false, not, _&&_}
 use mathlib.Core.List.{List, _∷_}
 use lib.Dec.{eqb, leb}
 use lib.ListN.{getD, set}
-use lib.Seq.{getD-set-other, set-comm}
+use lib.Seq.{getD-set-other}
 use borrow.Author.Tests.{eqb-false, not-true}
-use Rattle.frame.proofs.Shared.{never}
+use Rattle.laws.proofs.Lists.{set-twice}
+use Rattle.frame.specs.Limits.{mostFrames, deepest}
+use Rattle.laws.proofs.Logic.{never}
 use Rattle.frame.specs.Frame.{decodeWord}
 use Rattle.frame.specs.declared.Action.{Action}
 use Rattle.frame.specs.declared.Action.the-variants.{Acquire, Release, Read, Write, Begin, End}
@@ -34,7 +36,7 @@ cellOf t (Acquire l) = owner (l .0) (λ x. eqb x 0) (λ x. t + 1)
 cellOf t (Release l) = owner (l .0) (λ x. eqb x (t + 1)) (λ x. 0)
 cellOf t (Read v) = none
 cellOf t (Write v) = none
-cellOf t Begin = depth t (λ x. not (leb 15 x)) (λ x. x + 1)
+cellOf t Begin = depth t (λ x. not (leb deepest x)) (λ x. x + 1)
 cellOf t End = depth t (λ x. not (eqb x 0)) (λ x. x - 1)
 
 abbrev passes : Cell → State → Bool
@@ -54,7 +56,7 @@ does t (Acquire l) s n e = passed _ refusal.LockTaken s _ n e
 does t (Release l) s n e = passed _ refusal.LockNotHeld s _ n e
 does t (Read v) s n e = (refl, sym (ap (λ x. x .state) e))
 does t (Write v) s n e = (refl, sym (ap (λ x. x .state) e))
-does t Begin s n e = let q = spared (leb 15 (getD (s .depths) t 0)) refusal.TooDeep s _ n e in (rw (q .0), q .1)
+does t Begin s n e = let q = spared (leb deepest (getD (s .depths) t 0)) refusal.TooDeep s _ n e in (rw (q .0), q .1)
 does t End s n e = let q = spared (eqb (getD (s .depths) t 0) 0) refusal.NoOpenBlock s _ n e in (rw (q .0), q .1)
 
 steps : (t : ℕ) (a : Action) (s : State) → passes (cellOf t a) s ≡ true → stepAction t a s ≡ stepped outcome.Next (change (cellOf t a) s)
@@ -63,7 +65,7 @@ steps t (Acquire l) s e = rw e
 steps t (Release l) s e = rw e
 steps t (Read v) s e = refl
 steps t (Write v) s e = refl
-steps t Begin s e = rw (not-true (leb 15 (getD (s .depths) t 0)) e)
+steps t Begin s e = rw (not-true (leb deepest (getD (s .depths) t 0)) e)
 steps t End s e = rw (not-true (eqb (getD (s .depths) t 0) 0) e)
 
 -- not the same cell
@@ -84,13 +86,6 @@ test-kept (depth t ok to) (owner k ok′ to′) s a = refl
 test-kept (depth t ok to) (depth u ok′ to′) s a = ap ok′ (getD-set-other (s .depths) t u _ 0 a)
 test-kept (depth t ok to) none s a = refl
 test-kept none q s a = refl
-
-set-twice : (l : List ℕ) (m k : ℕ) (to to′ : ℕ → ℕ) → (k ≡ m → ⊥)
-    → set (set l m (to (getD l m 0))) k (to′ (getD (set l m (to (getD l m 0))) k 0))
-    ≡ set (set l k (to′ (getD l k 0))) m (to (getD (set l k (to′ (getD l k 0))) m 0))
-set-twice l m k to to′ a =
-    rw (getD-set-other l m k (to (getD l m 0)) 0 a, getD-set-other l k m (to′ (getD l k 0)) 0 (λ e. a (sym e)))
-    (set-comm l m k (to (getD l m 0)) (to′ (getD l k 0)) (λ e. a (sym e)))
 
 changes : (p q : Cell) (s : State) → Apart p q → change q (change p s) ≡ change p (change q s)
 changes (owner m ok to) (owner k ok′ to′) s a = ap (λ o. stateOf o (s .depths)) (set-twice (s .owners) m k to to′ a)
@@ -228,5 +223,5 @@ module _ {l r : List ℕ} (x : Exchanges independentWords l r) (e : checkReply l
   -- What exchanges make of a sound recording is sound.
   pub exchanges-sound : checkReply r ≡ check.Sound
   exchanges-sound =
-      check-short r (subst (λ n. n ≤ 4096) (exchanges-length independentWords x) (sound-fits l e))
+      check-short r (subst (λ n. n ≤ mostFrames) (exchanges-length independentWords x) (sound-fits l e))
       ∙ (ap (λ (c : Checked). c .reply) (sym from-start) ∙ (sym (check-short l (sound-fits l e)) ∙ e))

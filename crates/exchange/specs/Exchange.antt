@@ -1,4 +1,5 @@
 -- Lists that some number of exchanges of independent neighbours turn one into the other, and which words of a recording are independent.
+-- Quotes are from docs/FORMAT.md.
 use Prim.Native.Nat.{ℕ}
 use mathlib.Core.Path.{_≡_}
 use mathlib.Core.Bool.{Bool, true, false}

@@ -1,4 +1,5 @@
 -- Which frames are independent, by what their actions name.
+-- Quotes are from docs/FORMAT.md.
 use mathlib.Core.Bool.{Bool, false, not, _&&_}
 use lib.Dec.{eqb}
 use Rattle.frame.specs.declared.Lock.{Lock}

@@ -1,0 +1,1 @@
+// Independence and exchanges: definitions and their laws, and no code.

@@ -1,5 +1,5 @@
 -- Answers in words, in the manner of 000, figure 2: where the block began, where and by what it committed, which frame goes wrong, and why.
--- What the marks of a sentence stand for is said by `piece` (crate sentence).
+-- What the slots of a sentence stand for is said by `piece` (crate sentence).
 use Prim.Native.Nat.{ℕ}
 use Prim.Native.String.{String}
 use mathlib.Core.List.{List}

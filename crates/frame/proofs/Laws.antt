@@ -3,10 +3,11 @@ use Prim.Native.Nat.{ℕ, zero, suc, _/_, _%_, _<_, _≤_}
 use mathlib.Core.Path.{_≡_, refl, ap, _∙_}
 use mathlib.Core.Bool.{Bool, true, false}
 use native.Mathlib.Omega.{arith}
-use lib.Dec.{ltb}
-use borrow.Author.Tests.{le-ltb, le-leb, ltb-false, leb-true, eqb-true}
-use Rattle.frame.proofs.Shared.{never}
+use lib.Dec.{ltb, leb}
+use borrow.Author.Tests.{lt-leb, lt-ltb, ltb-false, ltb-true, leb-false, eqb-true}
+use Rattle.laws.proofs.Logic.{never}
 use Rattle.frame.specs.declared.Refusal.{Refusal}
+use Rattle.frame.specs.Limits.{threadCount, lockCount, variableCount}
 use Rattle.frame.specs.Frame.{objectFits, actionOf, decodeParts, decodeWord, wordOf, encodeParts, encodeFrame, ObjectInRange, InRange}
 use Rattle.frame.specs.Refusal.{refusalNumber}
 use Rattle.frame.specs.declared.Frame.{Frame}
@@ -19,7 +20,7 @@ use Rattle.frame.specs.declared.Decoded.the-variants as decoded
 pub record Shown (op t o : ℕ) (f : Frame) : Type 0 where
   pub low : 1 ≤ op
   pub high : op ≤ 6
-  pub thread : t ≤ 31
+  pub thread : t < threadCount
   pub object : objectFits op o ≡ true
   pub frame : f ≡ record { thread = record { 0 = t }; action = actionOf op o }
 
@@ -28,9 +29,9 @@ same-frame f g e = cc
 
 pub shown : (op t o : ℕ) (f : Frame) → decodeParts op t o ≡ decoded.Frame f → Shown op t o f
 unfolding decodeParts
-shown op t o f e = go (ltb op 1) refl (ltb 6 op) refl (ltb 31 t) refl (objectFits op o) refl
+shown op t o f e = go (ltb op 1) refl (ltb 6 op) refl (leb threadCount t) refl (objectFits op o) refl
   where
-    go : (a : Bool) → ltb op 1 ≡ a → (b : Bool) → ltb 6 op ≡ b → (d : Bool) → ltb 31 t ≡ d → (g : Bool) → objectFits op o ≡ g → Shown op t o f
+    go : (a : Bool) → ltb op 1 ≡ a → (b : Bool) → ltb 6 op ≡ b → (d : Bool) → leb threadCount t ≡ d → (g : Bool) → objectFits op o ≡ g → Shown op t o f
     go true p b q d r g u = let z : decoded.Bad refusal.Operation ≡ decoded.Frame f = rw p at e in never (cc)
     go false p true q d r g u = let z : decoded.Bad refusal.Operation ≡ decoded.Frame f = rw (p, q) at e in never (cc)
     go false p false q true r g u = let z : decoded.Bad refusal.Thread ≡ decoded.Frame f = rw (p, q, r) at e in never (cc)
@@ -38,7 +39,7 @@ shown op t o f e = go (ltb op 1) refl (ltb 6 op) refl (ltb 31 t) refl (objectFit
     go false p false q false r true u = record {
       low = ltb-false op 1 p;
       high = ltb-false 6 op q;
-      thread = ltb-false 31 t r;
+      thread = leb-false threadCount t r;
       object = u;
       frame = same-frame _ _ (rw (p, q, r, u) at e);
     }
@@ -63,10 +64,10 @@ operation (suc (suc (suc (suc (suc (suc zero)))))) l h = end
 operation (suc (suc (suc (suc (suc (suc (suc n))))))) l h = absurd (omega arith)
 
 object-fits : {op : ℕ} → Operation op → (o : ℕ) → objectFits op o ≡ true → ObjectInRange (actionOf op o)
-object-fits acquire o e = omega (arith, leb-true o 63 e)
-object-fits release o e = omega (arith, leb-true o 63 e)
-object-fits read o e = omega (arith, leb-true o 1023 e)
-object-fits write o e = omega (arith, leb-true o 1023 e)
+object-fits acquire o e = omega (arith, ltb-true o lockCount e)
+object-fits release o e = omega (arith, ltb-true o lockCount e)
+object-fits read o e = omega (arith, ltb-true o variableCount e)
+object-fits write o e = omega (arith, ltb-true o variableCount e)
 object-fits begin o e = tt
 object-fits end o e = tt
 
@@ -96,21 +97,21 @@ encode-decode w f e =
     ∙ encoded (operation (w / 16777216) (s .low) (s .high)) (w / 65536 % 256) (w % 65536) (s .object)
     ∙ omega arith
 
-parts : (op t o : ℕ) → t < 32 → o < 65536 → decodeWord (wordOf op t o) ≡ decodeParts op t o
+parts : (op t o : ℕ) → t < threadCount → o < 65536 → decodeWord (wordOf op t o) ≡ decodeParts op t o
 parts op t o h l =
     let a : wordOf op t o / 16777216 ≡ op = omega arith in
     let b : wordOf op t o / 65536 % 256 ≡ t = omega arith in
     let d : wordOf op t o % 65536 ≡ o = omega arith in
     rw (a, b, d)
 
-decode-parts : (t : ℕ) (a : Action) → t < 32 → ObjectInRange a → decodeWord (encodeParts t a) ≡ decoded.Frame (record { thread = record { 0 = t }; action = a })
+decode-parts : (t : ℕ) (a : Action) → t < threadCount → ObjectInRange a → decodeWord (encodeParts t a) ≡ decoded.Frame (record { thread = record { 0 = t }; action = a })
 unfolding decodeParts
-decode-parts t (Acquire l) h g = parts 1 t (l .0) h (omega arith) ∙ simp (le-ltb 31 t (omega arith), le-leb (l .0) 63 (omega arith))
-decode-parts t (Release l) h g = parts 2 t (l .0) h (omega arith) ∙ simp (le-ltb 31 t (omega arith), le-leb (l .0) 63 (omega arith))
-decode-parts t (Read v) h g = parts 3 t (v .0) h (omega arith) ∙ simp (le-ltb 31 t (omega arith), le-leb (v .0) 1023 (omega arith))
-decode-parts t (Write v) h g = parts 4 t (v .0) h (omega arith) ∙ simp (le-ltb 31 t (omega arith), le-leb (v .0) 1023 (omega arith))
-decode-parts t Begin h g = parts 5 t 0 h (omega arith) ∙ simp (le-ltb 31 t (omega arith))
-decode-parts t End h g = parts 6 t 0 h (omega arith) ∙ simp (le-ltb 31 t (omega arith))
+decode-parts t (Acquire l) h g = parts 1 t (l .0) h (omega arith) ∙ simp (lt-leb threadCount t h, lt-ltb (l .0) lockCount g)
+decode-parts t (Release l) h g = parts 2 t (l .0) h (omega arith) ∙ simp (lt-leb threadCount t h, lt-ltb (l .0) lockCount g)
+decode-parts t (Read v) h g = parts 3 t (v .0) h (omega arith) ∙ simp (lt-leb threadCount t h, lt-ltb (v .0) variableCount g)
+decode-parts t (Write v) h g = parts 4 t (v .0) h (omega arith) ∙ simp (lt-leb threadCount t h, lt-ltb (v .0) variableCount g)
+decode-parts t Begin h g = parts 5 t 0 h (omega arith) ∙ simp (lt-leb threadCount t h)
+decode-parts t End h g = parts 6 t 0 h (omega arith) ∙ simp (lt-leb threadCount t h)
 
 -- decoding what was encoded gives the frame
 pub decode-encode : (f : Frame) → InRange f → decodeWord (encodeFrame f) ≡ decoded.Frame f

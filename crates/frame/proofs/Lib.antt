@@ -1,3 +1,2 @@
 -- Laws that crates above cite.
-pub mod Shared
 pub mod Laws

@@ -1,8 +1,10 @@
 -- What a 32-bit word means as a frame, and the word of a frame.
 -- "A frame is a 32-bit word: operation in the top 8 bits, thread in the next 8, object in the low 16."
+-- Quotes are from docs/FORMAT.md.
 use Prim.Native.Nat.{ℕ, _+_, _*_, _/_, _%_, _<_}
 use mathlib.Core.Bool.{Bool, cond}
 use lib.Dec.{ltb, leb, eqb}
+use Rattle.frame.specs.Limits.{threadCount, lockCount, variableCount}
 use Rattle.frame.specs.declared.Thread.{Thread}
 use Rattle.frame.specs.declared.Frame.{Frame}
 use Rattle.frame.specs.declared.Action.{Action}
@@ -14,7 +16,7 @@ use Rattle.frame.specs.declared.Decoded.the-variants as decoded
 
 -- The table's objects: "lock 0 to 63" for the operations 1 and 2, "variable 0 to 1023" for 3 and 4, "0" for 5 and 6.
 abbrev pub objectFits : ℕ → ℕ → Bool
-objectFits op o = cond (leb op 2) (leb o 63) (cond (leb op 4) (leb o 1023) (eqb o 0))
+objectFits op o = cond (leb op 2) (ltb o lockCount) (cond (leb op 4) (ltb o variableCount) (eqb o 0))
 
 -- The table's meanings of the operations 1 to 6.
 abbrev pub actionOf : ℕ → ℕ → Action
@@ -25,12 +27,12 @@ actionOf op o =
     (cond (eqb op 4) (Write (record { 0 = o }))
     (cond (eqb op 5) Begin End))))
 
--- "4: operation not 1 to 6; 5: thread above 31; 6: object outside the table above; lowest number wins"
+-- "4: operation not 1 to 6 .. 5: thread above 31 .. 6: object outside the table of operations .. the lowest number wins"
 unfoldable pub decodeParts : ℕ → ℕ → ℕ → Decoded
 decodeParts op t o =
     cond (ltb op 1) (decoded.Bad refusal.Operation)
     (cond (ltb 6 op) (decoded.Bad refusal.Operation)
-    (cond (ltb 31 t) (decoded.Bad refusal.Thread)
+    (cond (leb threadCount t) (decoded.Bad refusal.Thread)
     (cond (objectFits op o) (decoded.Frame (record { thread = record { 0 = t }; action = actionOf op o }))
     (decoded.Bad refusal.Object))))
 
@@ -59,13 +61,13 @@ encodeFrame f = encodeParts (f .thread .0) (f .action)
 
 -- The numbers of a frame are in the table's ranges.
 abbrev pub ObjectInRange : Action → Type 0
-ObjectInRange (Acquire l) = l .0 < 64
-ObjectInRange (Release l) = l .0 < 64
-ObjectInRange (Read v) = v .0 < 1024
-ObjectInRange (Write v) = v .0 < 1024
+ObjectInRange (Acquire l) = l .0 < lockCount
+ObjectInRange (Release l) = l .0 < lockCount
+ObjectInRange (Read v) = v .0 < variableCount
+ObjectInRange (Write v) = v .0 < variableCount
 ObjectInRange Begin = Unit {0}
 ObjectInRange End = Unit {0}
 
 pub record InRange (f : Frame) : Type 0 where
-  pub thread : f .thread .0 < 32
+  pub thread : f .thread .0 < threadCount
   pub object : ObjectInRange (f .action)

@@ -1,7 +1,8 @@
--- The numbers of document 01's table of refusals.
+-- The numbers of the table of refusals in docs/FORMAT.md.
 use Prim.Native.Nat.{ℕ}
 use Rattle.frame.specs.declared.Refusal.{Refusal}
 use Rattle.frame.specs.declared.Refusal.the-variants as refusal
+use Rattle.frame.specs.declared.Refused.{Refused}
 
 abbrev pub refusalNumber : Refusal → ℕ
 refusalNumber refusal.Line = 1
@@ -21,3 +22,7 @@ refusalNumber refusal.OpenBlock = 14
 refusalNumber refusal.OutputBuffer = 15
 refusalNumber refusal.SetTable = 16
 refusalNumber refusal.LineBuffer = 17
+
+-- "A refusal is its number and place."
+abbrev pub refusedAt : Refusal → ℕ → Refused
+refusedAt r p = record { reason = r; place = p }

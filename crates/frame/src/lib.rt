@@ -4,6 +4,30 @@ ghost use mathlib.Core.Path.{_≡_};
 ghost use Rattle.frame.specs.Frame.{decodeWord, encodeFrame, wordOf, refusalOf};
 ghost use Rattle.frame.specs.Refusal.{refusalNumber};
 
+// The limits of a recording: its threads, locks, variables and frames, and the blocks that a thread may have open.
+pub const THREADS: usize = 32;
+
+pub const LOCKS: usize = 64;
+
+pub const VARIABLES: usize = 1024;
+
+pub const MOST: usize = 4096;
+
+pub const DEEPEST: u8 = 15;
+
+// The set of all locks: lock n is bit n.
+pub const ALL_LOCKS: u64 = 18446744073709551615;
+
+// The most frames as a place.
+pub const MOST_PLACE: u32 = MOST as u32;
+
+// The first numbers of an object that name no lock, no variable and no thread, as parts of a word.
+const LOCK_END: u32 = LOCKS as u32;
+
+const VARIABLE_END: u32 = VARIABLES as u32;
+
+const THREAD_END: u32 = THREADS as u32;
+
 // The three domains of numbers that a frame names.
 pub struct Thread(pub u8);
 
@@ -68,12 +92,12 @@ pub fn decode(word: u32) -> Decoded
     if 6 < op {
         return Decoded::Bad(Refusal::Operation);
     }
-    if 31 < thread {
+    if THREAD_END <= thread {
         return Decoded::Bad(Refusal::Thread);
     }
     let t = Thread(thread as u8);
     if op <= 2 {
-        if 63 < object {
+        if LOCK_END <= object {
             return Decoded::Bad(Refusal::Object);
         }
         let lock = Lock(object as u8);
@@ -89,7 +113,7 @@ pub fn decode(word: u32) -> Decoded
         });
     }
     if op <= 4 {
-        if 1023 < object {
+        if VARIABLE_END <= object {
             return Decoded::Bad(Refusal::Object);
         }
         let variable = Variable(object as u16);

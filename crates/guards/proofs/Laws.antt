@@ -9,9 +9,11 @@ use native.Mathlib.Omega.{arith}
 use native.Mathlib.Nat.{not-suc-le-zero}
 use lib.ListN.{length, getD, set, replicate, length-set, length-replicate, getD-replicate}
 use lib.Seq.{getD-set-same, getD-set-other, ext-getD}
-use lib.Dec.{ltb, leb, eqb}
-use borrow.Author.Tests.{lt-ltb, le-ltb, le-leb, lt-leb, ltb-false, leb-true, eqb-true, eqb-false, eq-eqb, ne-eqb}
-use Rattle.frame.proofs.Shared.{never, from-here, getD-filled}
+use lib.Dec.{leb, eqb}
+use borrow.Author.Tests.{lt-ltb, le-leb, lt-leb, leb-true, leb-false, eqb-true, eqb-false, eq-eqb, ne-eqb}
+use Rattle.frame.specs.Limits.{lockCount, variableCount, mostFrames}
+use Rattle.laws.proofs.Logic.{never, from-here}
+use Rattle.laws.proofs.Lists.{getD-filled}
 use Rattle.frame.specs.declared.Lock.{Lock}
 use Rattle.frame.specs.declared.Variable.{Variable}
 use Rattle.frame.specs.declared.Refused.{Refused}
@@ -22,7 +24,7 @@ use Rattle.digits.specs.declared.Line.the-variants as line
 use Rattle.text.specs.Text.{wordAt}
 use Rattle.digits.specs.Digits.{lineOf}
 use Rattle.text.proofs.Laws.{Accepted, ends, goes, accepted-length, accepted-line}
-use Rattle.guards.specs.Guards.{guardOf, guardVariable, guardLock, lines, refused, guardLine, onGuardLine, guardsFrom, noGuards, guardsRead}
+use Rattle.guards.specs.Guards.{guardOf, guardVariable, guardLock, lines, stopped, guardLine, onGuardLine, guardsFrom, noGuards, guardsRead, unprotectedCode}
 use Rattle.guards.specs.Listed.{Listed, ListsAreNeverTooLong}
 use Rattle.guards.specs.declared.Guard.the-variants.{Locked, Unprotected}
 use Rattle.guards.specs.declared.GuardLine.{GuardLine}
@@ -37,7 +39,7 @@ module _ (s : List ℕ) (i : ℕ) (g : List ℕ) where
   guards-done zero h = rw (le-leb (length s) (9 * i) h)
   guards-done (suc k) h = rw (le-leb (length s) (9 * i) h)
 
-  pub guards-over : 9 * i < length s → guardsFrom 0 s i g ≡ refused refusal.TooLong 4096 g
+  pub guards-over : 9 * i < length s → guardsFrom 0 s i g ≡ stopped refusal.TooLong mostFrames g
   unfolding guardsFrom
   guards-over h = rw (lt-leb (length s) (9 * i) h)
 
@@ -47,35 +49,35 @@ module _ (s : List ℕ) (i : ℕ) (g : List ℕ) where
   guards-step k m e h = rw (e, lt-leb (length s) (9 * i) h)
 
 -- one line read: the callees' answers, and how reading goes on
-pub guards-turn : (s : List ℕ) (i : ℕ) (g : List ℕ) {x : GuardsRead} {l : Line} {o : GuardLine} → x ≡ guardsFrom (4096 - i) s i g → i < 4096 → 9 * i < length s
-    → l ≡ lineOf s (9 * i) → o ≡ guardLine l → x ≡ onGuardLine o i g (λ g′. guardsFrom (4096 - (i + 1)) s (i + 1) g′)
-guards-turn s i g e h more p q = e ∙ guards-step s i g (4096 - i) (4096 - (i + 1)) (omega arith) more ∙ rw (q, p)
+pub guards-turn : (s : List ℕ) (i : ℕ) (g : List ℕ) {x : GuardsRead} {l : Line} {o : GuardLine} → x ≡ guardsFrom (mostFrames - i) s i g → i < mostFrames → 9 * i < length s
+    → l ≡ lineOf s (9 * i) → o ≡ guardLine l → x ≡ onGuardLine o i g (λ g′. guardsFrom (mostFrames - (i + 1)) s (i + 1) g′)
+guards-turn s i g e h more p q = e ∙ guards-step s i g (mostFrames - i) (mostFrames - (i + 1)) (omega arith) more ∙ rw (q, p)
 
 same-variable : (v w : Variable) (k l : Lock) → guard-line.Names w l ≡ guard-line.Names v k → v ≡ w
 same-variable v w k l e = cc
 
 -- a variable that a line names has an entry in the table
-pub names-variable : (l : Line) (v : Variable) (k : Lock) → guardLine l ≡ guard-line.Names v k → v .0 < 1024
-names-variable (line.Word w) v k e = go (ltb 1023 (guardVariable w)) refl (ltb 63 (guardLock w)) refl
+pub names-variable : (l : Line) (v : Variable) (k : Lock) → guardLine l ≡ guard-line.Names v k → v .0 < variableCount
+names-variable (line.Word w) v k e = go (leb variableCount (guardVariable w)) refl (leb lockCount (guardLock w)) refl
   where
-    go : (a : Bool) → ltb 1023 (guardVariable w) ≡ a → (b : Bool) → ltb 63 (guardLock w) ≡ b → v .0 < 1024
+    go : (a : Bool) → leb variableCount (guardVariable w) ≡ a → (b : Bool) → leb lockCount (guardLock w) ≡ b → v .0 < variableCount
     go true x b y = let f : guard-line.Bad refusal.GuardRange ≡ guard-line.Names v k = rw x at e in never (cc)
     go false x true y = let f : guard-line.Bad refusal.GuardRange ≡ guard-line.Names v k = rw (x, y) at e in never (cc)
     go false x false y =
-        rw (same-variable v _ k _ (rw (x, y) at e)) (omega (arith, ltb-false 1023 (guardVariable w) x))
+        rw (same-variable v _ k _ (rw (x, y) at e)) (omega (arith, leb-false variableCount (guardVariable w) x))
 names-variable line.Malformed v k e = never (cc)
 
 -- A guard line's word that is taken where the table of the lines before is g.
 pub record Taken (g : List ℕ) (w : ℕ) : Type 0 where
-  pub variable : guardVariable w ≤ 1023
-  pub lock : guardLock w ≤ 63
-  pub unnamed : getD g (guardVariable w) 0 ≡ 64
+  pub variable : guardVariable w < variableCount
+  pub lock : guardLock w < lockCount
+  pub unnamed : getD g (guardVariable w) 0 ≡ unprotectedCode
 
 -- How reading goes on from line i with the table g, where k lines may come: to the end, to a refusal, or to line i + 1.
 pub data Run (s : List ℕ) : ℕ → ℕ → List ℕ → GuardsRead → Type 0 where
   end : {k i : ℕ} {g : List ℕ} → length s ≤ 9 * i → Run s k i g (lines i g)
-  over : {i : ℕ} {g : List ℕ} → Run s zero i g (refused refusal.TooLong 4096 g)
-  stop : {k i : ℕ} {g : List ℕ} (r : Refusal) → (r ≡ refusal.TooLong → ⊥) → Run s k i g (refused r i g)
+  over : {i : ℕ} {g : List ℕ} → Run s zero i g (stopped refusal.TooLong mostFrames g)
+  stop : {k i : ℕ} {g : List ℕ} (r : Refusal) → (r ≡ refusal.TooLong → ⊥) → Run s k i g (stopped r i g)
   go-on : {k i : ℕ} {g : List ℕ} {r : GuardsRead} (w : ℕ) → lineOf s (9 * i) ≡ line.Word w → Taken g w
       → Run s k (i + 1) (set g (guardVariable w) (guardLock w)) r → Run s (suc k) i g r
 
@@ -89,8 +91,8 @@ run zero s i g = go (leb (length s) (9 * i)) refl
 run (suc k) s i g = go (run k s (i + 1)) (leb (length s) (9 * i)) refl (lineOf s (9 * i)) refl
   where
     word : ((h : List ℕ) → Run s k (i + 1) h (guardsFrom k s (i + 1) h)) → (w : ℕ) → lineOf s (9 * i) ≡ line.Word w
-        → (a : Bool) → ltb 1023 (guardVariable w) ≡ a → (b : Bool) → ltb 63 (guardLock w) ≡ b
-        → (d : Bool) → eqb (getD g (guardVariable w) 0) 64 ≡ d
+        → (a : Bool) → leb variableCount (guardVariable w) ≡ a → (b : Bool) → leb lockCount (guardLock w) ≡ b
+        → (d : Bool) → eqb (getD g (guardVariable w) 0) unprotectedCode ≡ d
         → Run s (suc k) i g (onGuardLine (guardLine (line.Word w)) i g (λ g′. guardsFrom k s (i + 1) g′))
     word ih w p true x b y d z = rw x (stop refusal.GuardRange (λ e. never (cc)))
     word ih w p false x true y d z = rw (x, y) (stop refusal.GuardRange (λ e. never (cc)))
@@ -99,9 +101,9 @@ run (suc k) s i g = go (run k s (i + 1)) (leb (length s) (9 * i)) refl (lineOf s
         rw (x, y, z)
         (go-on w p
         (record {
-          variable = ltb-false 1023 (guardVariable w) x;
-          lock = ltb-false 63 (guardLock w) y;
-          unnamed = eqb-true (getD g (guardVariable w) 0) 64 z;
+          variable = leb-false variableCount (guardVariable w) x;
+          lock = leb-false lockCount (guardLock w) y;
+          unnamed = eqb-true (getD g (guardVariable w) 0) unprotectedCode z;
         })
         (ih (set g (guardVariable w) (guardLock w))))
 
@@ -109,11 +111,11 @@ run (suc k) s i g = go (run k s (i + 1)) (leb (length s) (9 * i)) refl (lineOf s
         → (l : Line) → lineOf s (9 * i) ≡ l → Run s (suc k) i g (guardsFrom (suc k) s i g)
     go ih true q l p = rw q (end (leb-true (length s) (9 * i) q))
     go ih false q (line.Word w) p =
-        rw (q, p) (word ih w p (ltb 1023 (guardVariable w)) refl (ltb 63 (guardLock w)) refl (eqb (getD g (guardVariable w) 0) 64) refl)
+        rw (q, p) (word ih w p (leb variableCount (guardVariable w)) refl (leb lockCount (guardLock w)) refl (eqb (getD g (guardVariable w) 0) unprotectedCode) refl)
     go ih false q line.Malformed p = rw (q, p) (stop refusal.Line (λ e. never (cc)))
 
-pub whole : (s : List ℕ) → Run s 4096 0 noGuards (guardsRead s)
-whole s = run 4096 s 0 noGuards
+pub whole : (s : List ℕ) → Run s mostFrames 0 noGuards (guardsRead s)
+whole s = run mostFrames s 0 noGuards
 
 -- the table keeps its length
 run-length : {s : List ℕ} {k i : ℕ} {g : List ℕ} {r : GuardsRead} → Run s k i g r → length (r .table) ≡ length g
@@ -122,22 +124,22 @@ run-length over = refl
 run-length (stop r h) = refl
 run-length {g = g} (go-on w e t m) = run-length m ∙ length-set g (guardVariable w) (guardLock w)
 
-pub table-length : (s : List ℕ) → length (guardsRead s .table) ≡ 1024
-table-length s = run-length (whole s) ∙ length-replicate {A = ℕ} 1024 64
+pub table-length : (s : List ℕ) → length (guardsRead s .table) ≡ variableCount
+table-length s = run-length (whole s) ∙ length-replicate {A = ℕ} variableCount unprotectedCode
 
-unnamed-code : (x : ℕ) → getD noGuards x 64 ≡ 64
-unnamed-code x = getD-filled 1024 x 64
+unnamed-code : (x : ℕ) → getD noGuards x unprotectedCode ≡ unprotectedCode
+unnamed-code x = getD-filled variableCount x unprotectedCode
 
-never-code : {A : Type 0} → _≡_ {A = ℕ} 0 64 → A
+never-code : {A : Type 0} → _≡_ {A = ℕ} 0 unprotectedCode → A
 never-code e = absurd (omega arith)
 
 -- a variable that is not named stands in the table
-inside : (g : List ℕ) (v : ℕ) → getD g v 0 ≡ 64 → v < length g
+inside : (g : List ℕ) (v : ℕ) → getD g v 0 ≡ unprotectedCode → v < length g
 inside [] v e = never-code e
 inside (x ∷ xs) zero e = omega arith
 inside (x ∷ xs) (suc v) e = omega (arith, inside xs v e)
 
-default-code : (g : List ℕ) (v : ℕ) → getD g v 0 ≡ 64 → getD g v 64 ≡ 64
+default-code : (g : List ℕ) (v : ℕ) → getD g v 0 ≡ unprotectedCode → getD g v unprotectedCode ≡ unprotectedCode
 default-code [] v e = refl
 default-code (x ∷ xs) zero e = e
 default-code (x ∷ xs) (suc v) e = default-code xs v e
@@ -145,21 +147,21 @@ default-code (x ∷ xs) (suc v) e = default-code xs v e
 -- the number of variables not named yet
 unfoldable free : List ℕ → ℕ
 free [] = 0
-free (x ∷ xs) = cond (eqb x 64) (free xs + 1) (free xs)
+free (x ∷ xs) = cond (eqb x unprotectedCode) (free xs + 1) (free xs)
 
-free-set : (g : List ℕ) (v l : ℕ) → l ≤ 63 → getD g v 0 ≡ 64 → free (set g v l) + 1 ≡ free g
+free-set : (g : List ℕ) (v l : ℕ) → l < lockCount → getD g v 0 ≡ unprotectedCode → free (set g v l) + 1 ≡ free g
 unfolding free
 free-set [] v l h e = never-code e
 free-set (x ∷ xs) zero l h e =
-    let n : eqb l 64 ≡ false = ne-eqb l 64 (λ q. omega arith) in
-    rw (n, eq-eqb x 64 e)
-free-set (x ∷ xs) (suc v) l h e = go (free-set xs v l h e) (eqb x 64) refl
+    let n : eqb l unprotectedCode ≡ false = ne-eqb l unprotectedCode (λ q. omega arith) in
+    rw (n, eq-eqb x unprotectedCode e)
+free-set (x ∷ xs) (suc v) l h e = go (free-set xs v l h e) (eqb x unprotectedCode) refl
   where
-    go : free (set xs v l) + 1 ≡ free xs → (t : Bool) → eqb x 64 ≡ t → free (x ∷ set xs v l) + 1 ≡ free (x ∷ xs)
+    go : free (set xs v l) + 1 ≡ free xs → (t : Bool) → eqb x unprotectedCode ≡ t → free (x ∷ set xs v l) + 1 ≡ free (x ∷ xs)
     go ih true q = rw q (omega arith)
     go ih false q = rw q ih
 
-free-replicate : (n : ℕ) → free (replicate n 64) ≡ n
+free-replicate : (n : ℕ) → free (replicate n unprotectedCode) ≡ n
 unfolding free
 free-replicate zero = refl
 free-replicate (suc n) = omega (arith, free-replicate n)
@@ -177,7 +179,7 @@ run-short {g = g} (go-on w q t m) b p e =
     run-short m (omega (arith, free-set g (guardVariable w) (guardLock w) (t .lock) (t .unnamed))) p e
 
 pub lists-are-never-too-long : ListsAreNeverTooLong
-lists-are-never-too-long s p e = run-short (whole s) (omega (arith, free-replicate 1024)) p e
+lists-are-never-too-long s p e = run-short (whole s) (omega (arith, free-replicate variableCount)) p e
 
 -- An accepted list: the reply is n lines.
 module _ (s : List ℕ) (n : ℕ) where
@@ -201,60 +203,60 @@ module _ (s : List ℕ) (n : ℕ) where
   run-after (go-on w q t m) e = omega (arith, run-after m e)
 
   -- the code of a named variable stays
-  run-keeps : {k i : ℕ} {g : List ℕ} {r : GuardsRead} → Run s k i g r → (x : ℕ) → (getD g x 64 ≡ 64 → ⊥) → getD (r .table) x 64 ≡ getD g x 64
+  run-keeps : {k i : ℕ} {g : List ℕ} {r : GuardsRead} → Run s k i g r → (x : ℕ) → (getD g x unprotectedCode ≡ unprotectedCode → ⊥) → getD (r .table) x unprotectedCode ≡ getD g x unprotectedCode
   run-keeps (end h) x f = refl
   run-keeps over x f = refl
   run-keeps (stop r h) x f = refl
   run-keeps {g = g} (go-on w q t m) x f =
-      let o : getD (set g (guardVariable w) (guardLock w)) x 64 ≡ getD g x 64
-      = getD-set-other g (guardVariable w) x (guardLock w) 64 (λ e. f (rw e (default-code g (guardVariable w) (t .unnamed)))) in
+      let o : getD (set g (guardVariable w) (guardLock w)) x unprotectedCode ≡ getD g x unprotectedCode
+      = getD-set-other g (guardVariable w) x (guardLock w) unprotectedCode (λ e. f (rw e (default-code g (guardVariable w) (t .unnamed)))) in
       run-keeps m x (rw o f) ∙ o
 
-  set-lock : (g : List ℕ) (w : ℕ) → Taken g w → getD (set g (guardVariable w) (guardLock w)) (guardVariable w) 64 ≡ guardLock w
-  set-lock g w t = getD-set-same g (guardVariable w) (guardLock w) 64 (inside g (guardVariable w) (t .unnamed))
+  set-lock : (g : List ℕ) (w : ℕ) → Taken g w → getD (set g (guardVariable w) (guardLock w)) (guardVariable w) unprotectedCode ≡ guardLock w
+  set-lock g w t = getD-set-same g (guardVariable w) (guardLock w) unprotectedCode (inside g (guardVariable w) (t .unnamed))
 
   run-named : {k i : ℕ} {g : List ℕ} {r : GuardsRead} → Run s k i g r → r .reply ≡ reply.Lines n
-      → (j : ℕ) → i ≤ j → j < n → getD (r .table) (guardVariable (wordAt s j)) 64 ≡ guardLock (wordAt s j)
+      → (j : ℕ) → i ≤ j → j < n → getD (r .table) (guardVariable (wordAt s j)) unprotectedCode ≡ guardLock (wordAt s j)
   run-named {i = i} (end h) e j a b = absurd (omega (arith, same-lines i e))
   run-named over e j a b = never (cc)
   run-named (stop r h) e j a b = never (cc)
   run-named {i = i} {g} {r} (go-on w q t m) e j a b =
       let o = set-lock g w t in
-      let here : getD (r .table) (guardVariable w) 64 ≡ guardLock w = run-keeps m (guardVariable w) (rw o (λ z. omega (arith, t .lock))) ∙ o in
-      from-here (λ j. getD (r .table) (guardVariable (wordAt s j)) 64 ≡ guardLock (wordAt s j)) i n (rw (word-of i w q) here) (λ l c d. run-named m e l c d) j a b
+      let here : getD (r .table) (guardVariable w) unprotectedCode ≡ guardLock w = run-keeps m (guardVariable w) (rw o (λ z. omega (arith, t .lock))) ∙ o in
+      from-here (λ j. getD (r .table) (guardVariable (wordAt s j)) unprotectedCode ≡ guardLock (wordAt s j)) i n (rw (word-of i w q) here) (λ l c d. run-named m e l c d) j a b
 
   run-unnamed : {k i : ℕ} {g : List ℕ} {r : GuardsRead} → Run s k i g r → r .reply ≡ reply.Lines n
-      → (x : ℕ) → ((j : ℕ) → i ≤ j → j < n → guardVariable (wordAt s j) ≡ x → ⊥) → getD (r .table) x 64 ≡ getD g x 64
+      → (x : ℕ) → ((j : ℕ) → i ≤ j → j < n → guardVariable (wordAt s j) ≡ x → ⊥) → getD (r .table) x unprotectedCode ≡ getD g x unprotectedCode
   run-unnamed (end h) e x f = refl
   run-unnamed over e x f = refl
   run-unnamed (stop r h) e x f = refl
   run-unnamed {i = i} {g} (go-on w q t m) e x f =
       run-unnamed m e x (λ j a b. f j (omega arith) b)
-      ∙ getD-set-other g (guardVariable w) x (guardLock w) 64 (λ z. f i (omega arith) (omega (arith, run-after m e)) (rw (word-of i w q) (sym z)))
+      ∙ getD-set-other g (guardVariable w) x (guardLock w) unprotectedCode (λ z. f i (omega arith) (omega (arith, run-after m e)) (rw (word-of i w q) (sym z)))
 
   run-range : {k i : ℕ} {g : List ℕ} {r : GuardsRead} → Run s k i g r → r .reply ≡ reply.Lines n
-      → (j : ℕ) → i ≤ j → j < n → (guardVariable (wordAt s j) ≤ 1023) × (guardLock (wordAt s j) ≤ 63)
+      → (j : ℕ) → i ≤ j → j < n → (guardVariable (wordAt s j) < variableCount) × (guardLock (wordAt s j) < lockCount)
   run-range {i = i} (end h) e j a b = absurd (omega (arith, same-lines i e))
   run-range over e j a b = never (cc)
   run-range (stop r h) e j a b = never (cc)
   run-range {i = i} (go-on w q t m) e j a b =
-      from-here (λ j. (guardVariable (wordAt s j) ≤ 1023) × (guardLock (wordAt s j) ≤ 63)) i n (rw (word-of i w q) (t .variable, t .lock)) (λ l c d. run-range m e l c d) j a b
+      from-here (λ j. (guardVariable (wordAt s j) < variableCount) × (guardLock (wordAt s j) < lockCount)) i n (rw (word-of i w q) (t .variable, t .lock)) (λ l c d. run-range m e l c d) j a b
 
-  other : (g : List ℕ) (w : ℕ) → Taken g w → (x : ℕ) → getD (set g (guardVariable w) (guardLock w)) x 64 ≡ 64 → x ≡ guardVariable w → ⊥
-  other g w t x f z = let o : guardLock w ≡ 64 = sym (set-lock g w t) ∙ (rw z at f) in omega (arith, t .lock)
+  other : (g : List ℕ) (w : ℕ) → Taken g w → (x : ℕ) → getD (set g (guardVariable w) (guardLock w)) x unprotectedCode ≡ unprotectedCode → x ≡ guardVariable w → ⊥
+  other g w t x f z = let o : guardLock w ≡ unprotectedCode = sym (set-lock g w t) ∙ (rw z at f) in omega (arith, t .lock)
 
   -- a variable that is not named after a line was not named before it, nor by it
-  back : (g : List ℕ) (w : ℕ) → Taken g w → (x : ℕ) → getD (set g (guardVariable w) (guardLock w)) x 64 ≡ 64 → getD g x 64 ≡ 64
-  back g w t x f = sym (getD-set-other g (guardVariable w) x (guardLock w) 64 (other g w t x f)) ∙ f
+  back : (g : List ℕ) (w : ℕ) → Taken g w → (x : ℕ) → getD (set g (guardVariable w) (guardLock w)) x unprotectedCode ≡ unprotectedCode → getD g x unprotectedCode ≡ unprotectedCode
+  back g w t x f = sym (getD-set-other g (guardVariable w) x (guardLock w) unprotectedCode (other g w t x f)) ∙ f
 
   -- a variable that a later line names is not named yet
   run-fresh : {k i : ℕ} {g : List ℕ} {r : GuardsRead} → Run s k i g r → r .reply ≡ reply.Lines n
-      → (j : ℕ) → i ≤ j → j < n → getD g (guardVariable (wordAt s j)) 64 ≡ 64
+      → (j : ℕ) → i ≤ j → j < n → getD g (guardVariable (wordAt s j)) unprotectedCode ≡ unprotectedCode
   run-fresh {i = i} (end h) e j a b = absurd (omega (arith, same-lines i e))
   run-fresh over e j a b = never (cc)
   run-fresh (stop r h) e j a b = never (cc)
   run-fresh {i = i} {g} (go-on w q t m) e j a b =
-      from-here (λ j. getD g (guardVariable (wordAt s j)) 64 ≡ 64) i n
+      from-here (λ j. getD g (guardVariable (wordAt s j)) unprotectedCode ≡ unprotectedCode) i n
       (rw (word-of i w q) (default-code g (guardVariable w) (t .unnamed)))
       (λ l c d. back g w t (guardVariable (wordAt s l)) (run-fresh m e l c d))
       j
@@ -280,7 +282,7 @@ module _ (s : List ℕ) (n : ℕ) (e : guardsRead s .reply ≡ reply.Lines n) wh
   pub guards-length : 9 * n ≡ length s
   guards-length = accepted-length (omega arith) (run-accepted s n (whole s) e)
 
-  pub guards-range : (i : ℕ) → i < n → (guardVariable (wordAt s i) ≤ 1023) × (guardLock (wordAt s i) ≤ 63)
+  pub guards-range : (i : ℕ) → i < n → (guardVariable (wordAt s i) < variableCount) × (guardLock (wordAt s i) < lockCount)
   guards-range i h = run-range s n (whole s) e i (omega arith) h
 
   -- "names each variable at most once"
@@ -288,34 +290,34 @@ module _ (s : List ℕ) (n : ℕ) (e : guardsRead s .reply ≡ reply.Lines n) wh
   guards-distinct i j h l = run-distinct s n (whole s) e i (omega arith) (omega arith) j h l
 
   -- the table has each named variable's lock, whatever the order of the lines
-  pub guards-named : (i : ℕ) → i < n → getD (guardsRead s .table) (guardVariable (wordAt s i)) 64 ≡ guardLock (wordAt s i)
+  pub guards-named : (i : ℕ) → i < n → getD (guardsRead s .table) (guardVariable (wordAt s i)) unprotectedCode ≡ guardLock (wordAt s i)
   guards-named i h = run-named s n (whole s) e i (omega arith) h
 
   -- and each other variable is unprotected
-  pub guards-unnamed : (x : ℕ) → ((i : ℕ) → i < n → guardVariable (wordAt s i) ≡ x → ⊥) → getD (guardsRead s .table) x 64 ≡ 64
+  pub guards-unnamed : (x : ℕ) → ((i : ℕ) → i < n → guardVariable (wordAt s i) ≡ x → ⊥) → getD (guardsRead s .table) x unprotectedCode ≡ unprotectedCode
   guards-unnamed x f = run-unnamed s n (whole s) e x (λ j a b. f j b) ∙ unnamed-code x
 
   -- the same of the guards that the codes stand for
-  pub named-guard : (i : ℕ) → i < n → guardOf (getD (guardsRead s .table) (guardVariable (wordAt s i)) 64) ≡ Locked (record { 0 = guardLock (wordAt s i) })
-  named-guard i h = rw (guards-named i h) (rw (lt-ltb (guardLock (wordAt s i)) 64 (omega (arith, guards-range i h .1))))
+  pub named-guard : (i : ℕ) → i < n → guardOf (getD (guardsRead s .table) (guardVariable (wordAt s i)) unprotectedCode) ≡ Locked (record { 0 = guardLock (wordAt s i) })
+  named-guard i h = rw (guards-named i h) (rw (lt-ltb (guardLock (wordAt s i)) lockCount (omega (arith, guards-range i h .1))))
 
-  pub unnamed-guard : (x : ℕ) → ((i : ℕ) → i < n → guardVariable (wordAt s i) ≡ x → ⊥) → guardOf (getD (guardsRead s .table) x 64) ≡ Unprotected
+  pub unnamed-guard : (x : ℕ) → ((i : ℕ) → i < n → guardVariable (wordAt s i) ≡ x → ⊥) → guardOf (getD (guardsRead s .table) x unprotectedCode) ≡ Unprotected
   unnamed-guard x f = rw (guards-unnamed x f)
 
 -- A list that is `Listed` is accepted.
 module _ (s : List ℕ) (n : ℕ) (a : Listed s n) where
-  line-taken : (i : ℕ) (g : List ℕ) (more : List ℕ → GuardsRead) → i < n → getD g (guardVariable (wordAt s i)) 0 ≡ 64
+  line-taken : (i : ℕ) (g : List ℕ) (more : List ℕ → GuardsRead) → i < n → getD g (guardVariable (wordAt s i)) 0 ≡ unprotectedCode
       → onGuardLine (guardLine (lineOf s (9 * i))) i g more ≡ more (set g (guardVariable (wordAt s i)) (guardLock (wordAt s i)))
   line-taken i g more h e =
       rw (
         a .line-at i h,
-        le-ltb 1023 (guardVariable (wordAt s i)) (a .variables i h),
-        le-ltb 63 (guardLock (wordAt s i)) (a .locks i h),
-        eq-eqb (getD g (guardVariable (wordAt s i)) 0) 64 e,
+        lt-leb variableCount (guardVariable (wordAt s i)) (a .variables i h),
+        lt-leb lockCount (guardLock (wordAt s i)) (a .locks i h),
+        eq-eqb (getD g (guardVariable (wordAt s i)) 0) unprotectedCode e,
       )
 
   all-taken : (d k i : ℕ) (g : List ℕ) → i + d ≡ n → free g < k
-      → ((j : ℕ) → i ≤ j → j < n → getD g (guardVariable (wordAt s j)) 0 ≡ 64) → guardsFrom k s i g .reply ≡ reply.Lines n
+      → ((j : ℕ) → i ≤ j → j < n → getD g (guardVariable (wordAt s j)) 0 ≡ unprotectedCode) → guardsFrom k s i g .reply ≡ reply.Lines n
   all-taken zero k i g e h f =
       let q : i ≡ n = omega arith in
       ap (λ (z : GuardsRead). z .reply) (guards-done s i g k (omega (arith, a .size))) ∙ rw q
@@ -331,7 +333,7 @@ module _ (s : List ℕ) (n : ℕ) (a : Listed s n) where
       (λ j c b. getD-set-other g v (guardVariable (wordAt s j)) (guardLock (wordAt s i)) 0 (a .distinct i j (omega arith) b) ∙ f j (omega arith) b)
 
   pub guards-accepts : guardsRead s .reply ≡ reply.Lines n
-  guards-accepts = all-taken n 4096 0 noGuards (omega arith) (omega (arith, free-replicate 1024)) (λ j c b. getD-replicate 1024 (guardVariable (wordAt s j)) 64 0 (omega (arith, a .variables j b)))
+  guards-accepts = all-taken n mostFrames 0 noGuards (omega arith) (omega (arith, free-replicate variableCount)) (λ j c b. getD-replicate variableCount (guardVariable (wordAt s j)) unprotectedCode 0 (omega (arith, a .variables j b)))
 
 -- and an accepted list is one
 pub guards-listed : (s : List ℕ) (n : ℕ) → guardsRead s .reply ≡ reply.Lines n → Listed s n
@@ -365,9 +367,9 @@ named s x (suc n) = go (named s x n) (eqb (guardVariable (wordAt s n)) x) refl
 module _ (s t : List ℕ) (m n : ℕ) (e : guardsRead s .reply ≡ reply.Lines m) (u : guardsRead t .reply ≡ reply.Lines n)
     (f : ℕ → ℕ) (there : (i : ℕ) → i < m → (f i < n) × (wordAt t (f i) ≡ wordAt s i))
     (h : ℕ → ℕ) (back-here : (j : ℕ) → j < n → (h j < m) × (wordAt s (h j) ≡ wordAt t j)) where
-  same-code : (x : ℕ) → Named s x m → getD (guardsRead s .table) x 64 ≡ getD (guardsRead t .table) x 64
+  same-code : (x : ℕ) → Named s x m → getD (guardsRead s .table) x unprotectedCode ≡ getD (guardsRead t .table) x unprotectedCode
   same-code x (by i l q) =
-      let b : getD (guardsRead t .table) (guardVariable (wordAt s i)) 64 ≡ guardLock (wordAt s i) = rw (there i l .1) at (guards-named t n u (f i) (there i l .0)) in
+      let b : getD (guardsRead t .table) (guardVariable (wordAt s i)) unprotectedCode ≡ guardLock (wordAt s i) = rw (there i l .1) at (guards-named t n u (f i) (there i l .0)) in
       let c = guards-named s m e i l ∙ sym b in
       rw q at c
   same-code x (by-none z) =
@@ -376,5 +378,5 @@ module _ (s t : List ℕ) (m n : ℕ) (e : guardsRead s .reply ≡ reply.Lines m
 
   pub line-order : guardsRead s .table ≡ guardsRead t .table
   line-order =
-      ext-getD 64 (guardsRead s .table) (guardsRead t .table) (table-length s ∙ sym (table-length t))
+      ext-getD unprotectedCode (guardsRead s .table) (guardsRead t .table) (table-length s ∙ sym (table-length t))
       (λ x l. same-code x (named s x m))

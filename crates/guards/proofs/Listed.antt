@@ -9,10 +9,10 @@ use lib.ListN.{length, take, drop, length-drop}
 use lib.Seq.{length-take-le, getD-take, getD-drop, take-take}
 use lib.Dec.{ltb, leb}
 use borrow.Author.Tests.{le-ltb, ltb-true, ltb-false}
+use Rattle.frame.specs.Limits.{mostFrames}
 use Rattle.digits.specs.Digits.{lineOf}
 use Rattle.digits.specs.declared.Line.the-variants as line
-use Rattle.text.specs.Text.{wordIn, wordAt}
-use Rattle.guards.specs.declared.GuardsReply.the-variants as reply
+use Rattle.text.specs.Text.{wordIn, wordAt, mostBytes}
 use Rattle.text.proofs.Front.{line-front, end-front}
 use Rattle.guards.specs.declared.GuardsRead.{GuardsRead}
 use Rattle.guards.specs.Guards.{guardVariable, lines, guardLine, onGuardLine, guardsFrom, noGuards}
@@ -91,4 +91,4 @@ guards-front (suc k) s n i g h =
     (fun-ext λ t. guards-front k s n (i + 1) t (omega arith)))
 
 pub first-bytes-decide-lists : FirstBytesDecideLists
-first-bytes-decide-lists s = guards-front 4096 s 36865 0 noGuards (omega arith)
+first-bytes-decide-lists s = guards-front mostFrames s (mostBytes + 1) 0 noGuards (omega arith)

@@ -1,14 +1,16 @@
 -- Which guard lists are accepted, that line order has no meaning, that the first bytes decide, and that none is too long: claims over what the
 -- contract of `read_guards` cites.
-use Prim.Native.Nat.{ℕ, _*_, _≤_, _<_}
+-- Quotes are from docs/FORMAT.md.
+use Prim.Native.Nat.{ℕ, _+_, _*_, _<_}
 use mathlib.Core.Path.{_≡_}
 use mathlib.Core.Logic.{_↔_}
 use mathlib.Core.List.{List}
 use lib.ListN.{length, take, drop}
+use Rattle.frame.specs.Limits.{lockCount, variableCount}
 use Rattle.frame.specs.declared.Refusal.the-variants as refusal
 use Rattle.digits.specs.Digits.{lineOf}
 use Rattle.digits.specs.declared.Line.the-variants as line
-use Rattle.text.specs.Text.{wordAt}
+use Rattle.text.specs.Text.{wordAt, mostBytes}
 use Rattle.guards.specs.declared.GuardsReply.the-variants as reply
 use Rattle.guards.specs.Guards.{guardVariable, guardLock, guardsRead}
 
@@ -16,8 +18,8 @@ use Rattle.guards.specs.Guards.{guardVariable, guardLock, guardsRead}
 pub record Listed (s : List ℕ) (n : ℕ) : Type 0 where
   pub size : length s ≡ 9 * n
   pub line-at : (i : ℕ) → i < n → lineOf s (9 * i) ≡ line.Word (wordAt s i)
-  pub variables : (i : ℕ) → i < n → guardVariable (wordAt s i) ≤ 1023
-  pub locks : (i : ℕ) → i < n → guardLock (wordAt s i) ≤ 63
+  pub variables : (i : ℕ) → i < n → guardVariable (wordAt s i) < variableCount
+  pub locks : (i : ℕ) → i < n → guardLock (wordAt s i) < lockCount
   pub distinct : (i j : ℕ) → i < j → j < n → guardVariable (wordAt s j) ≡ guardVariable (wordAt s i) → ⊥
 
 -- A list is accepted, with n lines, exactly if it is so.
@@ -48,7 +50,7 @@ LineOrderHasNoMeaning =
 
 -- The first 36,865 bytes of a list decide what is answered, as those of a text do.
 abbrev pub FirstBytesDecideLists : Type 0
-FirstBytesDecideLists = (s : List ℕ) → guardsRead (take 36865 s) ≡ guardsRead s
+FirstBytesDecideLists = (s : List ℕ) → guardsRead (take (mostBytes + 1) s) ≡ guardsRead s
 
 -- A guard list is never refused by 2: line 1,024 at the latest is refused by another number.
 abbrev pub ListsAreNeverTooLong : Type 0

@@ -2,12 +2,33 @@
 use digits::Line;
 use digits::digit_values;
 use digits::read_line;
+use frame::LOCKS;
 use frame::Lock;
+use frame::MOST;
+use frame::MOST_PLACE;
 use frame::Refusal;
 use frame::Refused;
+use frame::VARIABLES;
 use frame::Variable;
+use text::MOST_BYTES;
 ghost use mathlib.Core.Path.{_≡_};
-ghost use Rattle.guards.specs.Guards.{guardOf, guardLine, guardsRead};
+ghost use Rattle.guards.specs.Guards.{guardOf, guardLine, guardsRead, guardsUnder};
+
+// The codes of a table: a lock is its own, then come the code of a variable that is unprotected, and of one whose guard is inferred.
+pub const UNPROTECTED: u8 = LOCKS as u8;
+
+pub const INFERRED: u8 = UNPROTECTED + 1;
+
+// The first numbers of a guard line that name no variable and no lock.
+const VARIABLE_END: u32 = VARIABLES as u32;
+
+const LOCK_END: u32 = LOCKS as u32;
+
+// How guards are given: declared by a guard list, or all inferred.
+pub enum Judgement {
+    Declared,
+    Inferred,
+}
 
 // What guards a variable.
 pub enum Guard {
@@ -31,17 +52,17 @@ pub enum GuardsReply {
 // What reading a guard list answers. Where the list is refused, the table is the one that the lines before give.
 pub struct GuardsRead {
     pub reply: GuardsReply,
-    pub table: [u8; 1024],
+    pub table: [u8; VARIABLES],
 }
 
-// The guard that a code of a table stands for: 0 to 63 a lock, 64 unprotected, any other inferred.
+// The guard that a code of a table stands for.
 pub fn guard_of(code: u8) -> Guard
     ensures { λ r. ⌜ r ≡ guardOf code ⌝ }
 {
-    if code < 64 {
+    if code < UNPROTECTED {
         return Guard::Locked(Lock(code));
     }
-    if code == 64 {
+    if code == UNPROTECTED {
         return Guard::Unprotected;
     }
     Guard::Inferred
@@ -56,10 +77,10 @@ fn guard_line(l: Line) -> GuardLine
     };
     let variable = w / 65536;
     let lock = w % 65536;
-    if 1023 < variable {
+    if VARIABLE_END <= variable {
         return GuardLine::Bad(Refusal::GuardRange);
     }
-    if 63 < lock {
+    if LOCK_END <= lock {
         return GuardLine::Bad(Refusal::GuardRange);
     }
     GuardLine::Names(Variable(variable as u16), Lock(lock as u8))
@@ -70,9 +91,9 @@ pub fn read_guards(list: &[u8]) -> GuardsRead
     ensures { λ r. ⌜ r ≡ guardsRead (now (list .entry)) ⌝ }
 {
     let t = digit_values();
-    let mut table = [64u8; 1024];
+    let mut table = [UNPROTECTED; VARIABLES];
     let mut i: usize = 0;
-    while i < 4096 {
+    while i < MOST {
         if list.len() <= 9 * i {
             return GuardsRead {
                 reply: GuardsReply::Lines(i as u32),
@@ -92,7 +113,7 @@ pub fn read_guards(list: &[u8]) -> GuardsRead
             }
             GuardLine::Names(v, k) => {
                 let x = v.0 as usize;
-                if table[x] != 64 {
+                if table[x] != UNPROTECTED {
                     return GuardsRead {
                         reply: GuardsReply::Refused(Refused {
                             reason: Refusal::GuardRepeated,
@@ -106,17 +127,30 @@ pub fn read_guards(list: &[u8]) -> GuardsRead
             }
         }
     }
-    if list.len() <= 36864 {
+    if list.len() <= MOST_BYTES {
         return GuardsRead {
-            reply: GuardsReply::Lines(4096),
+            reply: GuardsReply::Lines(MOST_PLACE),
             table: table,
         };
     }
     GuardsRead {
         reply: GuardsReply::Refused(Refused {
             reason: Refusal::TooLong,
-            place: 4096,
+            place: MOST_PLACE,
         }),
         table: table,
+    }
+}
+
+// The guards of a judgement: those that a list names, or all inferred, for which no list is read.
+pub fn guards_under(j: Judgement, list: &[u8]) -> GuardsRead
+    ensures { λ r. ⌜ r ≡ guardsUnder j (now (list .entry)) ⌝ }
+{
+    match j {
+        Judgement::Declared => read_guards(list),
+        Judgement::Inferred => GuardsRead {
+            reply: GuardsReply::Lines(0),
+            table: [INFERRED; VARIABLES],
+        },
     }
 }

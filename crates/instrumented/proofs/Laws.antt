@@ -7,6 +7,7 @@ use native.Mathlib.Omega.{arith}
 use native.Mathlib.Nat.{one-mul}
 use lib.Dec.{eqb}
 use lib.Pow.{shl-exact}
+use Rattle.frame.specs.Limits.{lockCount}
 use Rattle.frame.specs.declared.Thread.{Thread}
 use Rattle.reply.specs.declared.Verdict.the-variants.{Reducible}
 use Rattle.frame.specs.declared.Lock.{Lock}
@@ -14,7 +15,7 @@ use Rattle.reply.specs.declared.Kind.the-variants as kind
 use Rattle.instrumented.specs.Rules.{Phase, outside, before, Judging, judged, violation, phaseOf, acquireIn, unprotectedIn}
 
 -- the set of one lock, as the machine shifts it
-pub shl-one : (n : ℕ) → n < 64 → (1 * 2 ^ n) % 2 ^ 64 ≡ 2 ^ n
+pub shl-one : (n : ℕ) → n < lockCount → (1 * 2 ^ n) % 2 ^ 64 ≡ 2 ^ n
 shl-one n h = shl-exact 1 n 64 (omega arith) (omega arith) ∙ one-mul (2 ^ n)
 
 -- whether a thread is after commit, from depth and commit

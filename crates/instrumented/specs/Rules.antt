@@ -1,5 +1,6 @@
 -- The instrumented rules of the paper's figures 8 and 11 as a step function: what a sound frame does to its thread and to the candidate
 -- sets. In this order: where a thread stands, the state, violations, the step.
+-- Quotes are from docs/FORMAT.md.
 use Prim.Native.Nat.{ℕ, _+_, _-_, _^_, _/_, _%_}
 use mathlib.Core.Bool.{Bool, cond}
 use mathlib.Core.List.{List}

@@ -1,6 +1,8 @@
 // The instrumented rules for one operation of a thread, for guards that are declared, absent or inferred.
 use frame::Lock;
+use frame::THREADS;
 use frame::Thread;
+use frame::VARIABLES;
 use operation::Operation;
 use reply::Kind;
 ghost use mathlib.Core.Path.{_≡_};
@@ -8,6 +10,7 @@ ghost use Prim.Native.Nat.{_+_, _-_, _^_, _/_, _%_, _<_};
 ghost use mathlib.Core.Bool.{cond, true, false};
 ghost use lib.ListN.{getD};
 ghost use lib.Dec.{eqb};
+ghost use Rattle.frame.specs.Limits.{threadCount, lockCount};
 ghost use Rattle.instrumented.specs.Rules.{faultVerdict, phaseAt, committed, judgingOf, judged, judgeOperation};
 ghost use Rattle.instrumented.specs.Held.{Holdable, holding};
 
@@ -19,14 +22,14 @@ pub enum Fault {
 
 // The set of one lock.
 fn single(l: Lock) -> u64
-    requires { ⌜ l .0 < 64 ⌝ }
+    requires { ⌜ l .0 < lockCount ⌝ }
     ensures { λ r. ⌜ r ≡ 2 ^ (l .0) ⌝ }
 {
     1u64 << l.0
 }
 
 fn contains(s: u64, l: Lock) -> bool
-    requires { ⌜ l .0 < 64 ⌝ }
+    requires { ⌜ l .0 < lockCount ⌝ }
     ensures { λ r. ⌜ r ≡ eqb (s / 2 ^ (l .0) % 2) 1 ⌝ }
 {
     (s >> l.0) % 2 == 1
@@ -60,16 +63,16 @@ fn commit_at(d: u8, commit: u32, i: u32) -> u32
 
 // The rules for one operation of a thread at depth d, at place i: the state after it, or what is wrong, which leaves the state as it was.
 pub fn apply(
-    held: &mut [u64; 32],
-    begins: &mut [u32; 32],
-    commits: &mut [u32; 32],
-    sets: &mut [u64; 1024],
+    held: &mut [u64; THREADS],
+    begins: &mut [u32; THREADS],
+    commits: &mut [u32; THREADS],
+    sets: &mut [u64; VARIABLES],
     d: u8,
     i: u32,
     thread: Thread,
     op: Operation,
 ) -> Fault
-    requires { ⌜ thread .0 < 32 ⌝ ∗ ⌜ i < 4294967295 ⌝ ∗ ⌜ Holdable op (getD (now held) (thread .0) 0) ⌝ }
+    requires { ⌜ thread .0 < threadCount ⌝ ∗ ⌜ i < 4294967295 ⌝ ∗ ⌜ Holdable op (getD (now held) (thread .0) 0) ⌝ }
     ensures rules { λ r. ⌜ judgeOperation i thread d (getD (now (held .entry)) (thread .0) 0) op (judgingOf (now (begins .entry)) (now (commits .entry)) (now (sets .entry))) ≡ judged (faultVerdict r i thread (phaseAt d thread (judgingOf (now (begins .entry)) (now (commits .entry)) (now (sets .entry))))) (judgingOf (now (begins .exit)) (now (commits .exit)) (now (sets .exit))) ⌝ }
     ensures locks { λ r. ⌜ now (held .exit) ≡ holding (faultVerdict r i thread (phaseAt d thread (judgingOf (now (begins .entry)) (now (commits .entry)) (now (sets .entry))))) (thread .0) op (now (held .entry)) ⌝ }
 {

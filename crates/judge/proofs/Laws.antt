@@ -7,7 +7,8 @@ use borrow.Author.Tests.{ltb-true}
 use mathlib.Core.List.{List}
 use lib.ListN.{getD, set}
 use lib.Bits.{bitAnd}
-use Rattle.frame.proofs.Shared.{never, either}
+use Rattle.frame.specs.Limits.{variableCount, lockCount}
+use Rattle.laws.proofs.Logic.{never, either}
 use Rattle.frame.specs.declared.Thread.{Thread}
 use Rattle.reply.specs.declared.Kind.{Kind}
 use Rattle.reply.specs.declared.Mark.the-variants.{At, Absent}
@@ -17,7 +18,7 @@ use Rattle.reply.specs.declared.Kind.the-variants as kind
 use Rattle.reply.specs.declared.Verdict.{Verdict}
 use Rattle.reply.specs.declared.Violation.{Violation}
 use Rattle.frame.specs.declared.Variable.{Variable}
-use Rattle.guards.specs.Guards.{guardOf}
+use Rattle.guards.specs.Guards.{guardOf, unprotectedCode}
 use Rattle.instrumented.specs.Held.{Holdable, held}
 use Rattle.instrumented.specs.Rules.{Phase, outside, before, after, Judging, judgingOf, Judged, judged, violation, phaseOf, phaseAt, contains, committed, withCommit, acquireIn, unprotectedIn, judgeOperation}
 use Rattle.operation.specs.Operation.{guardedAccess}
@@ -79,18 +80,18 @@ pub wrong-at : (i : ℕ) (t : Thread) (d h : ℕ) (o : Operation) (j k : Judging
 wrong-at i t d h o j k x locks e = e ∙ ap (λ (n : Judging). judged (violation x i t (phaseAt d t n) locks) k) (sym (wrong-keeps i t d h o j _ k e))
 
 -- an access holds and frees nothing, whatever its guard
-pub access-fits : (c : ℕ) (v : Variable) (h : ℕ) → v .0 < 1024 → Holdable (guardedAccess (guardOf c) v) h
-access-fits c v h small = go (ltb c 64) refl (eqb c 64) refl
+pub access-fits : (c : ℕ) (v : Variable) (h : ℕ) → v .0 < variableCount → Holdable (guardedAccess (guardOf c) v) h
+access-fits c v h small = go (ltb c lockCount) refl (eqb c unprotectedCode) refl
   where
-    go : (p : Bool) → ltb c 64 ≡ p → (q : Bool) → eqb c 64 ≡ q → Holdable (guardedAccess (guardOf c) v) h
-    go true e q f = rw e (ltb-true c 64 e)
+    go : (p : Bool) → ltb c lockCount ≡ p → (q : Bool) → eqb c unprotectedCode ≡ q → Holdable (guardedAccess (guardOf c) v) h
+    go true e q f = rw e (ltb-true c lockCount e)
     go false e true f = rw (e, f) tt
     go false e false f = rw (e, f) small
 
 pub access-holds : (c : ℕ) (v : Variable) (t : ℕ) (hs : List ℕ) → held t (guardedAccess (guardOf c) v) hs ≡ hs
-access-holds c v t hs = go (ltb c 64) refl (eqb c 64) refl
+access-holds c v t hs = go (ltb c lockCount) refl (eqb c unprotectedCode) refl
   where
-    go : (p : Bool) → ltb c 64 ≡ p → (q : Bool) → eqb c 64 ≡ q → held t (guardedAccess (guardOf c) v) hs ≡ hs
+    go : (p : Bool) → ltb c lockCount ≡ p → (q : Bool) → eqb c unprotectedCode ≡ q → held t (guardedAccess (guardOf c) v) hs ≡ hs
     go true e q f = rw e
     go false e true f = rw (e, f)
     go false e false f = rw (e, f)

@@ -1,5 +1,7 @@
 // The judgement of one sound frame by the instrumented rules, for guards that are declared, absent or inferred.
+use frame::THREADS;
 use frame::Thread;
+use frame::VARIABLES;
 use instrumented::Fault;
 use operation::Operation;
 use reply::Kind;
@@ -11,11 +13,12 @@ ghost use Prim.Native.Nat.{_-_, _<_};
 ghost use mathlib.Core.Bool.{cond};
 ghost use lib.ListN.{getD};
 ghost use lib.Dec.{eqb};
+ghost use Rattle.frame.specs.Limits.{threadCount};
 ghost use Rattle.instrumented.specs.Rules.{violation, phaseOf, judgingOf, judged, judgeOperation};
 ghost use Rattle.instrumented.specs.Held.{Holdable, holding};
 
 // The outermost begin of a thread at depth d, where a block is open.
-pub fn begin_mark(d: u8, begin: u32) -> Mark
+fn begin_mark(d: u8, begin: u32) -> Mark
     ensures { λ r. ⌜ r ≡ cond (eqb d 0) Mark.Absent (Mark.At begin) ⌝ }
 {
     if d == 0 {
@@ -53,16 +56,16 @@ fn wrong(kind: Kind, i: u32, thread: Thread, d: u8, begin: u32, commit: u32, loc
 
 // One frame at place i, sound, of a thread at depth d. `Reducible` is: go on.
 pub fn judge(
-    held: &mut [u64; 32],
-    begins: &mut [u32; 32],
-    commits: &mut [u32; 32],
-    sets: &mut [u64; 1024],
+    held: &mut [u64; THREADS],
+    begins: &mut [u32; THREADS],
+    commits: &mut [u32; THREADS],
+    sets: &mut [u64; VARIABLES],
     d: u8,
     i: u32,
     thread: Thread,
     op: Operation,
 ) -> Verdict
-    requires { ⌜ thread .0 < 32 ⌝ ∗ ⌜ i < 4294967295 ⌝ ∗ ⌜ Holdable op (getD (now held) (thread .0) 0) ⌝ }
+    requires { ⌜ thread .0 < threadCount ⌝ ∗ ⌜ i < 4294967295 ⌝ ∗ ⌜ Holdable op (getD (now held) (thread .0) 0) ⌝ }
     ensures rules { λ r. ⌜ judgeOperation i thread d (getD (now (held .entry)) (thread .0) 0) op (judgingOf (now (begins .entry)) (now (commits .entry)) (now (sets .entry))) ≡ judged r (judgingOf (now (begins .exit)) (now (commits .exit)) (now (sets .exit))) ⌝ }
     ensures locks { λ r. ⌜ now (held .exit) ≡ holding r (thread .0) op (now (held .entry)) ⌝ }
 {

@@ -1,11 +1,10 @@
--- The fields of a reply, the bytes of its verdict line, and for which replies these are exact.
-use Prim.Native.Nat.{ℕ, zero, suc, _+_, _*_, _/_, _%_, _<_}
+-- The fields of a reply with their digits, the bytes of its verdict line, and for which replies these are exact.
+-- Quotes are from docs/FORMAT.md.
+use Prim.Native.Nat.{ℕ, _+_, _-_, _<_}
 use mathlib.Core.Path.{_≡_}
-use mathlib.Core.Bool.{cond}
 use mathlib.Core.List.{List, [], _∷_, _++_}
-use lib.ListN.{take, drop}
-use lib.Dec.{ltb}
 use Rattle.frame.specs.Refusal.{refusalNumber}
+use Rattle.digits.specs.Digits.{digits, tooWide}
 use Rattle.reply.specs.Reply.{kindNumber}
 use Rattle.reply.specs.declared.Mark.{Mark}
 use Rattle.reply.specs.declared.Mark.the-variants as mark
@@ -15,23 +14,28 @@ use Rattle.reply.specs.declared.Reply.{Reply}
 use Rattle.reply.specs.declared.Reply.the-variants as reply
 use Rattle.line.specs.declared.Fields.{Fields}
 
--- The digit 0-9 A-F of a value below 16.
-unfoldable pub byteOf : ℕ → ℕ
-byteOf v = cond (ltb v 10) (v + 48) (v + 55)
+-- "A verdict line is 32 digits and LF: kind (2), frame (4), thread (2), begin (4), commit (4), locks (16)." The digits of each; a frame, a
+-- begin and a commit are places.
+abbrev pub kindWidth : ℕ
+kindWidth = 2
 
--- The low n digits of v, top digit first.
-unfoldable pub digits : ℕ → ℕ → List ℕ
-digits zero v = []
-digits (suc n) v = digits n (v / 16) ++ (byteOf (v % 16) ∷ [])
+abbrev pub placeWidth : ℕ
+placeWidth = 4
 
--- A buffer with n of its bytes replaced from a place on.
-abbrev pub pasted : List ℕ → ℕ → ℕ → List ℕ → List ℕ
-pasted s at n xs = take at s ++ (xs ++ drop (at + n) s)
+abbrev pub threadWidth : ℕ
+threadWidth = 2
 
--- "Absent begin or commit is FFFF."
+abbrev pub locksWidth : ℕ
+locksWidth = 16
+
+-- The bytes of a line.
+abbrev pub lineLength : ℕ
+lineLength = kindWidth + placeWidth + threadWidth + placeWidth + placeWidth + locksWidth + 1
+
+-- "Absent begin or commit is FFFF": the highest that its digits hold.
 abbrev pub markField : Mark → ℕ
 markField (mark.At i) = i
-markField mark.Absent = 65535
+markField mark.Absent = tooWide placeWidth - 1
 
 -- Of a kind and a frame, with "thread 00, FFFF twice, locks zero".
 abbrev pub bareFields : ℕ → ℕ → Fields
@@ -54,37 +58,24 @@ abbrev pub replyFields : Reply → ℕ → Fields
 replyFields (reply.Refused r) n = bareFields (128 + refusalNumber (r .reason)) (r .place)
 replyFields (reply.Judged v) n = verdictFields v n
 
--- The digits of a frame, a begin and a commit.
-abbrev pub placeWidth : ℕ
-placeWidth = 4
-
--- "A line is 32 digits and LF: kind (2), frame (4), thread (2), begin (4), commit (4), locks (16)."
+-- The fields in their order, and LF.
 unfoldable pub fieldsLine : Fields → List ℕ
 fieldsLine f =
-    digits 2 (f .kind) ++ digits placeWidth (f .frame) ++ digits 2 (f .thread) ++ digits placeWidth (f .begin) ++ digits placeWidth (f .commit) ++ digits 16 (f .locks) ++ (10 ∷ [])
+    digits kindWidth (f .kind) ++ digits placeWidth (f .frame) ++ digits threadWidth (f .thread) ++ digits placeWidth (f .begin) ++ digits placeWidth (f .commit) ++ digits locksWidth (f .locks) ++ (10 ∷ [])
 
 -- The line of a reply to a recording of n frames.
 abbrev pub verdictLine : Reply → ℕ → List ℕ
 verdictLine r n = fieldsLine (replyFields r n)
 
--- "On a line it is eight digits 0-9 A-F, top digit first, then one LF."
-unfoldable pub wordLine : ℕ → List ℕ
-wordLine w = digits 8 w ++ (10 ∷ [])
-
--- The least number that n digits cannot hold.
-unfoldable pub tooWide : ℕ → ℕ
-tooWide zero = 1
-tooWide (suc n) = 16 * tooWide n
-
--- Fields that their digits hold whole: places of at most 65,535. (The kind, the thread and the locks of a reply always are so. The places
--- of the verdicts' replies are, too: `RepliesFit`, crate answer.)
+-- Fields that their digits hold whole. (The kind, the thread and the locks of a reply always are so. The places of the verdicts' replies are,
+-- too: `RepliesFit`, crate answer.)
 pub record Exact (f : Fields) : Type 0 where
-  pub kind : f .kind < tooWide 2
+  pub kind : f .kind < tooWide kindWidth
   pub frame : f .frame < tooWide placeWidth
-  pub thread : f .thread < tooWide 2
+  pub thread : f .thread < tooWide threadWidth
   pub begin : f .begin < tooWide placeWidth
   pub commit : f .commit < tooWide placeWidth
-  pub locks : f .locks < tooWide 16
+  pub locks : f .locks < tooWide locksWidth
 
 -- For which replies the line is exact: where their fields are held whole, one line means one choice of fields.
 abbrev pub LinesAreExact : Type 0

@@ -6,26 +6,35 @@ use reply::Verdict;
 use reply::kind_number;
 ghost use mathlib.Core.Path.{_≡_};
 ghost use mathlib.Core.List.{_++_};
-ghost use Prim.Native.Nat.{_+_, _<_, _≤_};
+ghost use Prim.Native.Nat.{_≤_};
 ghost use lib.ListN.{length, drop};
-ghost use Rattle.line.specs.Line.{byteOf, digits, pasted, markField, bareFields, replyFields, fieldsLine, verdictLine, wordLine};
+ghost use Rattle.line.specs.Line.{markField, bareFields, replyFields, lineLength, fieldsLine, verdictLine};
 
-// The digits of a frame, a begin and a commit.
-const PLACE: usize = 4;
+// The digits of the fields: of a kind, of a frame, a begin or a commit, of a thread, of the locks.
+const KIND_WIDTH: usize = 2;
 
-// The begin or commit that is absent.
-const ABSENT: u32 = 65535;
+const PLACE_WIDTH: usize = 4;
 
-// Where the fields of a line start. The kind and the thread have two digits, the locks 16.
-const FRAME_AT: usize = 2;
+const THREAD_WIDTH: usize = 2;
 
-const THREAD_AT: usize = FRAME_AT + PLACE;
+const LOCKS_WIDTH: usize = 16;
 
-const BEGIN_AT: usize = THREAD_AT + 2;
+// Where the fields of a line start.
+const FRAME_AT: usize = KIND_WIDTH;
 
-const COMMIT_AT: usize = BEGIN_AT + PLACE;
+const THREAD_AT: usize = FRAME_AT + PLACE_WIDTH;
 
-const LOCKS_AT: usize = COMMIT_AT + PLACE;
+const BEGIN_AT: usize = THREAD_AT + THREAD_WIDTH;
+
+const COMMIT_AT: usize = BEGIN_AT + PLACE_WIDTH;
+
+const LOCKS_AT: usize = COMMIT_AT + PLACE_WIDTH;
+
+// The bytes of a line: the fields and LF.
+pub const LINE: usize = LOCKS_AT + LOCKS_WIDTH + 1;
+
+// The begin or commit that is absent: the highest that its digits hold.
+const ABSENT: u32 = ((1u64 << (4 * PLACE_WIDTH)) - 1) as u32;
 
 // The fields of a verdict line.
 pub struct Fields {
@@ -89,70 +98,36 @@ pub fn reply_fields(r: Reply, frames: u32) -> Fields
     }
 }
 
-// The digit of a value below 16.
-fn digit_byte(v: u8) -> u8
-    requires { ⌜ v < 16 ⌝ }
-    ensures { λ r. ⌜ r ≡ byteOf v ⌝ }
-{
-    if v < 10 {
-        return v + 48;
-    }
-    v + 55
-}
-
-// The low digits of a value, written at a place of a buffer.
-fn put(out: &mut [u8], at: usize, width: usize, value: u64)
-    requires { ⌜ at + width ≤ length (now out) ⌝ }
-    ensures { λ r. ⌜ now (out .exit) ≡ pasted (now (out .entry)) at width (digits width value) ⌝ }
-{
-    let mut v = value;
-    let mut k = width;
-    while 0 < k {
-        k -= 1;
-        out[at + k] = digit_byte((v % 16) as u8);
-        v = v / 16;
-    }
-}
-
-// The 33 bytes of a line: LFs, of which the digits leave the last.
-pub fn fields_line(f: Fields) -> [u8; 33]
+// The bytes of a line: LFs, of which the digits leave the last.
+pub fn fields_line(f: Fields) -> [u8; LINE]
     ensures { λ l. ⌜ l ≡ fieldsLine f ⌝ }
 {
-    let mut line = [10u8; 33];
-    put(&mut line, 0, 2, f.kind as u64);
-    put(&mut line, FRAME_AT, PLACE, f.frame as u64);
-    put(&mut line, THREAD_AT, 2, f.thread as u64);
-    put(&mut line, BEGIN_AT, PLACE, f.begin as u64);
-    put(&mut line, COMMIT_AT, PLACE, f.commit as u64);
-    put(&mut line, LOCKS_AT, 16, f.locks);
+    let mut line = [10u8; LINE];
+    digits::put(&mut line, 0, KIND_WIDTH, f.kind as u64);
+    digits::put(&mut line, FRAME_AT, PLACE_WIDTH, f.frame as u64);
+    digits::put(&mut line, THREAD_AT, THREAD_WIDTH, f.thread as u64);
+    digits::put(&mut line, BEGIN_AT, PLACE_WIDTH, f.begin as u64);
+    digits::put(&mut line, COMMIT_AT, PLACE_WIDTH, f.commit as u64);
+    digits::put(&mut line, LOCKS_AT, LOCKS_WIDTH, f.locks);
     line
 }
 
 // The line of a reply to a recording of so many frames.
-pub fn verdict_line(r: Reply, frames: u32) -> [u8; 33]
+pub fn verdict_line(r: Reply, frames: u32) -> [u8; LINE]
     ensures { λ l. ⌜ l ≡ verdictLine r frames ⌝ }
 {
     let f = reply_fields(r, frames);
     fields_line(f)
 }
 
-// A line in the first 33 bytes of a lent buffer. The rest is left.
-pub fn put_line(out: &mut [u8], l: [u8; 33])
-    requires { ⌜ 33 ≤ length (now out) ⌝ }
-    ensures { λ r. ⌜ now (out .exit) ≡ l ++ drop 33 (now (out .entry)) ⌝ }
+// A line at the front of a lent buffer. The rest is left.
+pub fn put_line(out: &mut [u8], l: [u8; LINE])
+    requires { ⌜ lineLength ≤ length (now out) ⌝ }
+    ensures { λ r. ⌜ now (out .exit) ≡ l ++ drop lineLength (now (out .entry)) ⌝ }
 {
     let mut i = 0;
-    while i < 33 {
+    while i < LINE {
         out[i] = l[i];
         i += 1;
     }
-}
-
-// The line of a word.
-pub fn word_line(w: u32) -> [u8; 9]
-    ensures { λ l. ⌜ l ≡ wordLine w ⌝ }
-{
-    let mut line = [10u8; 9];
-    put(&mut line, 0, 8, w as u64);
-    line
 }

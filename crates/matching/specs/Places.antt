@@ -37,12 +37,12 @@ lastAt (lock m) c = getD (c .locks) (m .0) 0
 lastAt (variable x) c = getD (c .variables) (x .0) 0
 lastAt neither c = 0
 
-abbrev pub markAt : Named → ℕ → Lasts → Lasts
-markAt (lock m) q c = lastsOf (set (c .locks) (m .0) q) (c .variables)
-markAt (variable x) q c = lastsOf (c .locks) (set (c .variables) (x .0) q)
-markAt neither q c = c
+abbrev pub withLast : Named → ℕ → Lasts → Lasts
+withLast (lock m) q c = lastsOf (set (c .locks) (m .0) q) (c .variables)
+withLast (variable x) q c = lastsOf (c .locks) (set (c .variables) (x .0) q)
+withLast neither q c = c
 
--- The last place is marked; b says whether it was below q before.
-pub record Marked (n : Named) (q : ℕ) (c c′ : Lasts) (b : Bool) : Type 0 where
+-- The last place is noted; b says whether it was below q before.
+pub record Noted (n : Named) (q : ℕ) (c c′ : Lasts) (b : Bool) : Type 0 where
   pub below : b ≡ ltb (lastAt n c) q
-  pub marked : c′ ≡ markAt n q c
+  pub noted : c′ ≡ withLast n q c

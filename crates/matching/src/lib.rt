@@ -1,6 +1,8 @@
-// The steps of the comparison of two recordings: where a thread's next frame stands, and marking that a frame is matched.
+// The steps of the comparison of two recordings: where a thread's next frame stands, and noting that a frame is matched.
 use frame::Action;
+use frame::LOCKS;
 use frame::Thread;
+use frame::VARIABLES;
 ghost use mathlib.Core.Path.{_≡_};
 ghost use Prim.Native.Nat.{_≤_, _<_};
 ghost use lib.ListN.{length};
@@ -8,7 +10,7 @@ ghost use Rattle.frame.specs.Frame.{ObjectInRange};
 ghost use Rattle.soundness.specs.Soundness.{checkReply};
 ghost use Rattle.soundness.specs.declared.CheckReply.the-variants as check;
 ghost use Rattle.exchange.specs.Independent.{named};
-ghost use Rattle.matching.specs.Places.{Stored, lastsOf, Marked, FoundIn};
+ghost use Rattle.matching.specs.Places.{Stored, lastsOf, Noted, FoundIn};
 
 // Stores q, and answers whether what was there is below q.
 fn store(last: &mut [u32], k: usize, q: u32) -> bool
@@ -21,9 +23,14 @@ fn store(last: &mut [u32], k: usize, q: u32) -> bool
 }
 
 // A frame with this action is matched; q is one more than its place. Answers whether what the action names was matched before q only.
-pub fn mark(locks: &mut [u32; 64], variables: &mut [u32; 1024], a: Action, q: u32) -> bool
+pub fn note_last(
+    locks: &mut [u32; LOCKS],
+    variables: &mut [u32; VARIABLES],
+    a: Action,
+    q: u32,
+) -> bool
     requires { ⌜ ObjectInRange a ⌝ }
-    ensures { λ r. ⌜ Marked (named a) q (lastsOf (now (locks .entry)) (now (variables .entry))) (lastsOf (now (locks .exit)) (now (variables .exit))) r ⌝ }
+    ensures { λ r. ⌜ Noted (named a) q (lastsOf (now (locks .entry)) (now (variables .entry))) (lastsOf (now (locks .exit)) (now (variables .exit))) r ⌝ }
 {
     match a {
         Action::Acquire(l) => store(locks, l.0 as usize, q),

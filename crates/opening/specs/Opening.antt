@@ -1,14 +1,15 @@
 -- A recording read, with the guard list checked before it.
+-- Quotes are from docs/FORMAT.md.
 use Prim.Native.Nat.{ℕ, _≤_}
 use mathlib.Core.Path.{_≡_}
-use mathlib.Core.Bool.{Bool, cond}
 use mathlib.Core.List.{List}
 use lib.ListN.{length, take}
 use Rattle.frame.specs.declared.Refused.{Refused}
 use Rattle.text.specs.Text.{scanned, wordsTo}
 use Rattle.text.specs.declared.ReadReply.{ReadReply}
 use Rattle.text.specs.declared.ReadReply.the-variants as read
-use Rattle.guards.specs.Guards.{guardsRead}
+use Rattle.guards.specs.Guards.{guardsUnder}
+use Rattle.guards.specs.declared.Judgement.{Judgement}
 use Rattle.guards.specs.declared.GuardsReply.{GuardsReply}
 use Rattle.guards.specs.declared.GuardsReply.the-variants as guards
 use Rattle.phrase.specs.declared.Source.{Source}
@@ -21,16 +22,13 @@ abbrev pub openedRead : Source → ReadReply → Opened
 openedRead s (read.Lines n) = opened.Frames n
 openedRead s (read.Refused x) = opened.Refused s x
 
--- "A guard list is checked before the recording." Where guards are inferred there is none to check.
-abbrev pub listReply : Bool → List ℕ → GuardsReply
-listReply declared list = cond declared (guardsRead list .reply) (guards.Lines 0)
-
+-- "A guard list is checked before the recording."
 abbrev pub onList : GuardsReply → Opened → Opened
 onList (guards.Lines n) o = o
 onList (guards.Refused x) o = opened.Refused source.GuardList x
 
-unfoldable pub opening : Bool → List ℕ → List ℕ → Opened
-opening declared list s = onList (listReply declared list) (openedRead source.Recording (scanned s))
+unfoldable pub opening : Judgement → List ℕ → List ℕ → Opened
+opening j list s = onList (guardsUnder j list .reply) (openedRead source.Recording (scanned s))
 
 -- The words of a recording that is read stand first in a table.
 abbrev pub WordsRead : Opened → List ℕ → List ℕ → Type 0

@@ -1,10 +1,12 @@
 // An action as the rules see it, by the guard of the variable that it accesses.
 use frame::Action;
 use frame::Lock;
+use frame::VARIABLES;
 use frame::Variable;
 use guards::Guard;
 ghost use mathlib.Core.Path.{_≡_};
 ghost use Prim.Native.Nat.{_-_, _<_};
+ghost use Rattle.frame.specs.Limits.{variableCount};
 ghost use Rattle.frame.specs.Frame.{ObjectInRange};
 ghost use Rattle.operation.specs.Operation.{operationOf, accessOf};
 
@@ -19,8 +21,8 @@ pub enum Operation {
     End,
 }
 
-fn access_of(guards: &[u8; 1024], v: Variable) -> Operation
-    requires { ⌜ v .0 < 1024 ⌝ }
+fn access_of(guards: &[u8; VARIABLES], v: Variable) -> Operation
+    requires { ⌜ v .0 < variableCount ⌝ }
     ensures { λ r. ⌜ r ≡ accessOf (now (guards .entry)) v ⌝ }
 {
     let n = v.0 as usize;
@@ -32,7 +34,7 @@ fn access_of(guards: &[u8; 1024], v: Variable) -> Operation
     }
 }
 
-pub fn operation_of(guards: &[u8; 1024], a: Action) -> Operation
+pub fn operation_of(guards: &[u8; VARIABLES], a: Action) -> Operation
     requires { ⌜ ObjectInRange a ⌝ }
     ensures { λ r. ⌜ r ≡ operationOf (now (guards .entry)) a ⌝ }
 {

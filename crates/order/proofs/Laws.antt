@@ -5,19 +5,19 @@ use mathlib.Core.Bool.{Bool, true, false, not}
 use mathlib.Core.List.{List, _++_}
 use borrow.Author.Tests.{lt-ltb, le-ltb, not-true, not-false}
 use lib.ListN.{length, drop}
-use Rattle.frame.proofs.Shared.{never}
+use Rattle.laws.proofs.Logic.{never}
+use Rattle.frame.specs.Refusal.{refusedAt}
 use Rattle.frame.specs.declared.Refusal.the-variants as refusal
 use Rattle.reply.specs.Reply.{reducible}
 use Rattle.reply.specs.declared.Mark.the-variants.{At, Absent}
 use Rattle.reply.specs.declared.Reply.{Reply}
 use Rattle.reply.specs.declared.Reply.the-variants as reply
 use Rattle.reply.specs.declared.Verdict.the-variants as verdict
-use Rattle.soundness.specs.Soundness.{start}
-use Rattle.pass.specs.Pass.{Ended, startJudging, fullSets, judgement}
+use Rattle.pass.specs.Pass.{Ended, fullSets, judgement, openAtEnd}
 use Rattle.pass.proofs.Judgement.{judgement-pass, judgement-sound}
 use Rattle.serial.specs.Order.{serialWords}
-use Rattle.serial.specs.Walk.{walkReply, endPoint, firstOpen}
-use Rattle.order.specs.Order.{refused, reducibleReply, irreducible, orderReply, orderOut, outAfter}
+use Rattle.serial.specs.Walk.{walkReply}
+use Rattle.order.specs.Order.{reducibleReply, irreducible, orderReply, orderOut, outAfter}
 use Rattle.order.specs.declared.OrderReply.the-variants as order
 
 -- a reply that passes the test
@@ -37,7 +37,6 @@ says-irreducible q r b e t f = ap reducibleReply (sym e) ∙ not-true (reducible
 -- a walk of a reducible recording answers that it is, so the test lets it pass
 pub walked : {A : Type 0} (guards ws : List ℕ) (q : Reply) (b : Bool) → judgement guards fullSets ws .reply ≡ reducible → q ≡ walkReply guards ws
     → b ≡ not (reducibleReply q) → b ≡ true → A
-unfolding start startJudging
 walked guards ws q b r e t f =
     let w : walkReply guards ws ≡ reducible = sym (ap (λ (x : Ended). x .reply) (judgement-pass guards fullSets ws (judgement-sound guards fullSets ws verdict.Reducible r))) ∙ r in
     let z : true ≡ false = sym (ap reducibleReply (e ∙ w)) ∙ not-true (reducibleReply q) (sym t ∙ f) in
@@ -60,20 +59,20 @@ module _ (guards ws out : List ℕ) where
     not-reducible-out = rw not-reducible (irreducible-out (judgement guards fullSets ws .reply) (serialWords guards ws) out e)
 
   module _ (e : judgement guards fullSets ws .reply ≡ reducible) where
-    module _ (b : ℕ) (o : firstOpen (endPoint guards ws) ≡ At b) where
-      pub still-open : orderReply guards ws (length out) ≡ refused refusal.OpenBlock b
+    module _ (b : ℕ) (o : openAtEnd (judgement guards fullSets ws) ≡ At b) where
+      pub still-open : orderReply guards ws (length out) ≡ order.Refused (refusedAt refusal.OpenBlock b)
       unfolding orderReply
-      still-open = rw (e, o)
+      still-open = rw (o, e)
 
       pub still-open-out : orderOut guards ws out ≡ out
       unfolding orderOut
       still-open-out = rw still-open
 
-    module _ (o : firstOpen (endPoint guards ws) ≡ Absent) where
+    module _ (o : openAtEnd (judgement guards fullSets ws) ≡ Absent) where
       module _ (short : length out < length ws) where
-        pub no-room : orderReply guards ws (length out) ≡ refused refusal.OutputBuffer (length ws)
+        pub no-room : orderReply guards ws (length out) ≡ order.Refused (refusedAt refusal.OutputBuffer (length ws))
         unfolding orderReply
-        no-room = rw (e, o, lt-ltb (length out) (length ws) short)
+        no-room = rw (o, e, lt-ltb (length out) (length ws) short)
 
         pub no-room-out : orderOut guards ws out ≡ out
         unfolding orderOut
@@ -82,7 +81,7 @@ module _ (guards ws out : List ℕ) where
       module _ (room : length ws ≤ length out) where
         pub is-written : orderReply guards ws (length out) ≡ order.Written (length ws)
         unfolding orderReply
-        is-written = rw (e, o, le-ltb (length out) (length ws) room)
+        is-written = rw (o, e, le-ltb (length out) (length ws) room)
 
         pub is-written-out : orderOut guards ws out ≡ serialWords guards ws ++ drop (length ws) out
         unfolding orderOut

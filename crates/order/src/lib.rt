@@ -1,14 +1,17 @@
-// The serial order of a recording, with declared and with inferred guards: all checks, then the order into a lent buffer.
+// The serial order of a recording by a judgement: all checks, then the order into a lent buffer.
+use frame::ALL_LOCKS;
 use frame::Refusal;
 use frame::Refused;
+use frame::VARIABLES;
 use guards::GuardsReply;
+use guards::Judgement;
 use reply::Mark;
 use reply::Reply;
 use reply::Verdict;
 ghost use mathlib.Core.Path.{_≡_};
 ghost use mathlib.Core.Bool.{not};
 ghost use lib.ListN.{length};
-ghost use Rattle.order.specs.Order.{reducibleReply, irreducible, listRefused, declaredOrder, declaredOut, inferredOrder, inferredOut, orderReply, orderOut};
+ghost use Rattle.order.specs.Order.{reducibleReply, irreducible, listRefused, orderReply, orderOut, orderUnder, outUnder};
 
 pub enum OrderReply {
     Written(u32),
@@ -43,23 +46,19 @@ fn is_irreducible(r: Reply) -> bool
     }
 }
 
-// The serial order under a table of guards: the pass, the walk to the end and the walk that writes, each of which answers what it finds wrong.
-fn order(words: &[u32], guards: &[u8; 1024], out: &mut [u32]) -> OrderReply
+// The serial order under a table of guards: the pass, and the walk that writes, which answers what it finds wrong.
+fn under_guards(words: &[u32], guards: &[u8; VARIABLES], out: &mut [u32]) -> OrderReply
     ensures reply { λ r. ⌜ r ≡ orderReply (now (guards .entry)) (now (words .entry)) (length (now (out .entry))) ⌝ }
     ensures contents { λ r. ⌜ now (out .exit) ≡ orderOut (now (guards .entry)) (now (words .entry)) (now (out .entry)) ⌝ }
 {
-    let mut sets = [18446744073709551615u64; 1024];
-    let r = pass::judge_recording(words, guards, &mut sets);
+    let mut sets = [ALL_LOCKS; VARIABLES];
+    let p = pass::judge_recording(words, guards, &mut sets);
+    let r = p.reply;
     if is_irreducible(r) {
         return refusal(r);
     }
-    let m = endmarks::end_marks(words, guards);
-    let q = m.reply;
-    if is_irreducible(q) {
-        return refusal(q);
-    }
-    let open = serial::first_open(m);
-    if let Mark::At(b) = open {
+    let unclosed = p.unclosed;
+    if let Mark::At(b) = unclosed {
         return OrderReply::Refused(Refused {
             reason: Refusal::OpenBlock,
             place: b,
@@ -89,23 +88,16 @@ fn list_refused(q: GuardsReply) -> OrderReply
     }
 }
 
-pub fn declared(list: &[u8], words: &[u32], out: &mut [u32]) -> OrderReply
-    ensures reply { λ r. ⌜ r ≡ declaredOrder (now (list .entry)) (now (words .entry)) (length (now (out .entry))) ⌝ }
-    ensures contents { λ r. ⌜ now (out .exit) ≡ declaredOut (now (list .entry)) (now (words .entry)) (now (out .entry)) ⌝ }
+// The serial order by a judgement. Where guards are inferred, the list is not read.
+pub fn order(j: Judgement, list: &[u8], words: &[u32], out: &mut [u32]) -> OrderReply
+    ensures reply { λ r. ⌜ r ≡ orderUnder j (now (list .entry)) (now (words .entry)) (length (now (out .entry))) ⌝ }
+    ensures contents { λ r. ⌜ now (out .exit) ≡ outUnder j (now (list .entry)) (now (words .entry)) (now (out .entry)) ⌝ }
 {
-    let g = guards::read_guards(list);
+    let g = guards::guards_under(j, list);
     let q = g.reply;
     let GuardsReply::Lines(_) = q else {
         return list_refused(q);
     };
     let table = g.table;
-    order(words, &table, out)
-}
-
-pub fn inferred(words: &[u32], out: &mut [u32]) -> OrderReply
-    ensures reply { λ r. ⌜ r ≡ inferredOrder (now (words .entry)) (length (now (out .entry))) ⌝ }
-    ensures contents { λ r. ⌜ now (out .exit) ≡ inferredOut (now (words .entry)) (now (out .entry)) ⌝ }
-{
-    let guards = [65u8; 1024];
-    order(words, &guards, out)
+    under_guards(words, &table, out)
 }

@@ -9,9 +9,12 @@ use native.Mathlib.Omega.{arith}
 use native.Mathlib.Numerals.{add-one}
 use borrow.Author.Tests.{eqb-true, eqb-false, ne-eqb, ltb-true, ltb-false}
 use lib.Dec.{eqb, ltb}
-use lib.ListN.{length, getD, take, drop, drop-of-length-le, List·getD-eq-default}
-use lib.Seq.{take-suc, append-snoc, drop-cons}
-use Rattle.frame.proofs.Shared.{never, from-here}
+use lib.ListN.{length, getD, take, drop, List·getD-eq-default}
+use lib.Seq.{take-suc, append-snoc, take-all}
+use Rattle.laws.proofs.Lists.{rest-of, nothing-left}
+use Rattle.pass.specs.Pass.{earlier, openBegin, firstOpenFrom, fullSets, judgeFrom, judgement, openAtEnd}
+use Rattle.frame.specs.Limits.{threadCount}
+use Rattle.laws.proofs.Logic.{never, from-here, by-test}
 use Rattle.frame.specs.Frame.{decodeWord}
 use Rattle.frame.specs.declared.Frame.{Frame}
 use Rattle.frame.specs.declared.Decoded.the-variants as decoded
@@ -20,16 +23,13 @@ use Rattle.soundness.specs.declared.Outcome.the-variants as outcome
 use Rattle.instrumented.specs.Rules.{Judging}
 use Rattle.reply.specs.declared.Mark.{Mark}
 use Rattle.reply.specs.declared.Mark.the-variants.{At, Absent}
-use Rattle.operation.specs.Operation.{operationOf}
 use Rattle.rules.specs.Choice.{Reducible}
 use Rattle.exchange.proofs.Sound.{goes-on}
 use Rattle.serial.specs.Order.{Closed, depthAfter, Open, FirstOpen}
-use Rattle.serial.specs.Walk.{earlier, openBegin, firstOpenFrom, firstOpen, endFrom, endPoint}
 use Rattle.reduction.proofs.Run.{threadOf, Run}
-use Rattle.reduction.proofs.Steps.{by-test}
-use Rattle.orderlaws.proofs.View.{One}
-use Rattle.orderlaws.proofs.Recording.{point, Pass, end, on, start-long, start-view, depth-now, pass-end-long}
-use Rattle.orderlaws.proofs.Order.{reducible-pass, end-depth}
+use Rattle.orderlaws.proofs.View.{OneFrame}
+use Rattle.orderlaws.proofs.Recording.{Pass, end, on, start-long, start-view, depth-now, pass-end-long}
+use Rattle.orderlaws.proofs.Order.{reducible-pass, end-depth, lastOf, open-last}
 
 -- the earlier of two places is one of them, and not behind either
 earlier-one : (x y : Mark) (b : ℕ) → earlier x y ≡ At b → (x ≡ At b) ⊎ (y ≡ At b)
@@ -102,21 +102,6 @@ earliest zero k m depths begins b e =
 earliest (suc n) k m depths begins b e =
     earliest-next n k m depths begins b (earliest n (k + 1) (earlier m (openBegin (getD depths k 0) (getD begins k 0))) depths begins b e)
 
--- what a list has from a place on
-rest-of : (all : List ℕ) (i w : ℕ) (ws : List ℕ) → drop i all ≡ w ∷ ws → (i < length all) × (getD all i 0 ≡ w) × (drop (suc i) all ≡ ws)
-rest-of all i w ws e = by-test (ltb i (length all))
-    (λ q. let z : getD all i 0 ∷ drop (suc i) all ≡ w ∷ ws = sym (drop-cons all i 0 (ltb-true i (length all) q)) ∙ e in (ltb-true i (length all) q, cc, cc))
-    (λ q. let z : [] ≡ w ∷ ws = sym (drop-of-length-le all (ltb-false i (length all) q)) ∙ e in never (cc))
-
-take-all : (all : List ℕ) → take (length all) all ≡ all
-take-all [] = refl
-take-all (w ∷ all) = ap (λ (l : List ℕ). w ∷ l) (take-all all)
-
-nothing-left : (all : List ℕ) (i : ℕ) → drop i all ≡ [] → length all ≤ i
-nothing-left all i e = by-test (ltb i (length all))
-    (λ q. let z : getD all i 0 ∷ drop (suc i) all ≡ [] = sym (drop-cons all i 0 (ltb-true i (length all) q)) ∙ e in never (cc))
-    (λ q. ltb-false i (length all) q)
-
 -- The first i frames lead to state s.
 abbrev Reached : List ℕ → ℕ → State → Type 0
 Reached all i s = (r : List ℕ) → checkFrom 0 start (take i all ++ r) ≡ checkFrom i s r
@@ -147,7 +132,7 @@ abbrev Begun : List ℕ → ℕ → State → Judging → Type 0
 Begun all i s j = (t : ℕ) → (getD (s .depths) t 0 ≡ 0 → ⊥) → OpenTo all t i (getD (j .begins) t 0)
 
 module _ (guards : List ℕ) where
-  begun-next : (all : List ℕ) {i : ℕ} {s n : State} {j k : Judging} (f : Frame) → One i (threadOf f) (operationOf guards (f .action)) s j n k
+  begun-next : (all : List ℕ) {i : ℕ} {s n : State} {j k : Judging} (f : Frame) → OneFrame guards i f s j n k
       → Reached all i s → Reached all (suc i) n → Begun all i s j → Begun all (suc i) n k
   begun-next all {i} {s} {n} {j} {k} f o h next b u ne =
       subst (λ (x : ℕ). OpenTo all u (suc i) x) (sym (o .begun u ne)) (go (eqb u t) (eqb (getD (s .depths) t 0) 0) refl refl)
@@ -178,8 +163,8 @@ module _ (guards : List ℕ) where
       go false y x z = longer (getD (j .begins) u 0) (b u (others x))
 
   begun-end : (all : List ℕ) {i : ℕ} {s : State} {j : Judging} {ws : List ℕ} → Pass guards i s j ws → drop i all ≡ ws → i ≤ length all → Reached all i s
-      → Begun all i s j → Begun all (length all) (endFrom guards i (point s j) ws .state) (endFrom guards i (point s j) ws .judging)
-  unfolding endFrom
+      → Begun all i s j → Begun all (length all) (judgeFrom guards i s j ws .state) (judgeFrom guards i s j ws .judging)
+  unfolding judgeFrom
   begun-end all (end {i = i} {s = s} {j = j}) e l h b =
       let q = nothing-left all i e in
       let z : i ≡ length all = omega arith in
@@ -191,7 +176,7 @@ module _ (guards : List ℕ) where
 
 -- a block that is open at the end leaves its thread's depth above 0
 open-to-end : (ws : List ℕ) (t c : ℕ) → Open ws t c → getD (checkFrom 0 start ws .state .depths) t 0 ≡ 0 → ⊥
-open-to-end ws t c o z = o .stays (length ws) (o .within) (omega arith) (ap (λ (l : List ℕ). getD (checkFrom 0 start l .state .depths) t 0) (take-all ws) ∙ z)
+open-to-end ws t c o z = o .stays (length ws) (o .within) (omega arith) (ap (λ (l : List ℕ). getD (checkFrom 0 start l .state .depths) t 0) (take-all (length ws) ws (omega arith)) ∙ z)
 
 -- "All blocks are closed": none is open.
 pub none-closed : (ws : List ℕ) (b : ℕ) → FirstOpen ws b → Closed ws → ⊥
@@ -204,35 +189,35 @@ one-begin ws t b c p q = by-test (ltb c b)
     (λ l. ltb-false c b l)
 
 module _ (guards ws : List ℕ) (r : Reducible guards ws) where
-  at-end : Begun ws (length ws) (endPoint guards ws .state) (endPoint guards ws .judging)
+  at-end : Begun ws (length ws) (lastOf guards ws .state) (lastOf guards ws .judging)
   at-end = begun-end guards ws (reducible-pass guards ws r) refl (omega arith) (λ l. refl) (λ t ne. absurd (ne (ap (λ (x : Run). x .depth t) start-view)))
 
   -- The block of a thread whose depth is not 0 at the end.
-  open-since : (t : ℕ) → (getD (endPoint guards ws .state .depths) t 0 ≡ 0 → ⊥) → Open ws t (getD (endPoint guards ws .judging .begins) t 0)
+  open-since : (t : ℕ) → (getD (lastOf guards ws .state .depths) t 0 ≡ 0 → ⊥) → Open ws t (getD (lastOf guards ws .judging .begins) t 0)
   open-since t ne = let q = at-end t ne in record { within = q .within; raised = q .raised; stays = q .stays }
 
   -- "smallest place of an open outermost begin": what the code finds is it.
-  pub first-open : (b : ℕ) → firstOpen (endPoint guards ws) ≡ At b → FirstOpen ws b
+  pub first-open : (b : ℕ) → openAtEnd (judgement guards fullSets ws) ≡ At b → FirstOpen ws b
   first-open b e = go (q .is)
     where
-      q : Earliest 32 0 Absent (endPoint guards ws .state .depths) (endPoint guards ws .judging .begins) b
-      q = earliest 32 0 Absent (endPoint guards ws .state .depths) (endPoint guards ws .judging .begins) b e
+      q : Earliest threadCount 0 Absent (lastOf guards ws .state .depths) (lastOf guards ws .judging .begins) b
+      q = earliest threadCount 0 Absent (lastOf guards ws .state .depths) (lastOf guards ws .judging .begins) b (sym (open-last guards ws r) ∙ e)
 
-      not-closed : (t c : ℕ) → Open ws t c → getD (endPoint guards ws .state .depths) t 0 ≡ 0 → ⊥
+      not-closed : (t c : ℕ) → Open ws t c → getD (lastOf guards ws .state .depths) t 0 ≡ 0 → ⊥
       not-closed t c o z = open-to-end ws t c o (sym (end-depth guards ws r t) ∙ z)
 
-      in-range : (t : ℕ) → (getD (endPoint guards ws .state .depths) t 0 ≡ 0 → ⊥) → t < 32
-      in-range t ne = by-test (ltb t 32) (λ p. ltb-true t 32 p)
-          (λ p. let l : length (checkFrom 0 start ws .state .depths) ≡ 32 = pass-end-long guards (reducible-pass guards ws r) start-long in
-          absurd (ne (end-depth guards ws r t ∙ List·getD-eq-default (checkFrom 0 start ws .state .depths) 0 (omega (arith, ltb-false t 32 p)))))
+      in-range : (t : ℕ) → (getD (lastOf guards ws .state .depths) t 0 ≡ 0 → ⊥) → t < threadCount
+      in-range t ne = by-test (ltb t threadCount) (λ p. ltb-true t threadCount p)
+          (λ p. let l : length (checkFrom 0 start ws .state .depths) ≡ threadCount = pass-end-long guards (reducible-pass guards ws r) start-long in
+          absurd (ne (end-depth guards ws r t ∙ List·getD-eq-default (checkFrom 0 start ws .state .depths) 0 (omega (arith, ltb-false t threadCount p)))))
 
       smallest : (t c : ℕ) → Open ws t c → b ≤ c
       smallest t c o =
           let ne = not-closed t c o in
           let l = q .of-threads t (omega arith) (in-range t ne) ne in
-          let m = one-begin ws t (getD (endPoint guards ws .judging .begins) t 0) c (open-since t ne) o in
+          let m = one-begin ws t (getD (lastOf guards ws .judging .begins) t 0) c (open-since t ne) o in
           omega arith
 
-      go : (Absent ≡ At b) ⊎ Since (endPoint guards ws .state .depths) (endPoint guards ws .judging .begins) b → FirstOpen ws b
+      go : (Absent ≡ At b) ⊎ Since (lastOf guards ws .state .depths) (lastOf guards ws .judging .begins) b → FirstOpen ws b
       go (inl z) = never (cc)
       go (inr t) = record { thread = t .0; is-open = subst (λ (c : ℕ). Open ws (t .0) c) (t .2) (open-since (t .0) (t .1)); smallest = smallest }

@@ -6,29 +6,28 @@ use mathlib.Core.Path.{_≡_, refl, sym, ap, _∙_, subst}
 use mathlib.Core.Bool.{Bool, true, false, cond}
 use mathlib.Core.List.{List, [], _∷_, _++_, map}
 use native.Mathlib.Omega.{arith}
-use native.Mathlib.Numerals.{add-one}
 use borrow.Author.Tests.{eqb-true, ltb-true, ltb-false}
 use lib.Dec.{eqb, ltb}
 use lib.ListN.{length, getD, drop, List·getD-eq-default}
-use Rattle.frame.proofs.Shared.{never, either, from-here}
+use Rattle.turn.specs.declared.Turn.{Turn}
+use Rattle.turn.specs.declared.Turn.the-variants as turn
+use Rattle.turn.specs.Turn.{turned}
+use Rattle.pass.specs.Pass.{Ended, startJudging, fullSets, judgeFrom, judgement, earlier, openBegin, firstOpenFrom, firstOpen, openAtEnd}
+use Rattle.frame.specs.Limits.{threadCount}
+use Rattle.laws.proofs.Logic.{never, either, from-here, by-test}
 use Rattle.frame.specs.Frame.{decodeWord, encodeFrame}
 use Rattle.frame.specs.declared.Thread.{Thread}
 use Rattle.frame.specs.declared.Frame.{Frame}
 use Rattle.frame.specs.declared.Action.{Action}
-use Rattle.frame.specs.declared.Action.the-variants as action
 use Rattle.frame.specs.declared.Decoded.{Decoded}
 use Rattle.frame.specs.declared.Decoded.the-variants as decoded
 use Rattle.reply.specs.declared.Mark.{Mark}
 use Rattle.reply.specs.declared.Mark.the-variants.{At, Absent}
-use Rattle.reply.specs.declared.Verdict.{Verdict}
 use Rattle.reply.specs.declared.Verdict.the-variants as verdict
-use Rattle.soundness.specs.Soundness.{State, stepFrame, checkFrom, start}
-use Rattle.soundness.specs.declared.Outcome.{Outcome}
-use Rattle.soundness.specs.declared.Outcome.the-variants as outcome
+use Rattle.soundness.specs.Soundness.{State, checkFrom, start, nest}
 use Rattle.operation.specs.Operation.{operationOf}
 use Rattle.operation.specs.declared.Operation.{Operation}
 use Rattle.operation.specs.declared.Operation.the-variants.{Acquire, Release, Protected, Unprotected, Inferred, Begin, End}
-use Rattle.pass.specs.Pass.{Ended, judgeFrame, startJudging, fullSets}
 use Rattle.pass.proofs.Judgement.{judgement-pass, judgement-sound}
 use Rattle.rules.specs.Choice.{Reducible, Choice, choose}
 use Rattle.rules.proofs.Choice.{chosen, operation-chosen, inferred-is-some-choice}
@@ -36,18 +35,17 @@ use Rattle.exchange.specs.Exchange.{Exchanges, independentWords, frameOf, frame
 use Rattle.exchange.specs.Independent.{independent}
 use Rattle.exchange.proofs.Exchange.{exchanges-length}
 use Rattle.exchange.proofs.Frames.{AllDecode, frame-word, sound-all-decode, frames-words, apart-words}
-use Rattle.serial.specs.Order.{Point, next, phaseOfThread, settled, commits, unitAt, unitsFrom, serialWords, Closed, contiguousAt, Contiguous, nest}
-use Rattle.serial.specs.Walk.{ownFrame, onOwn, unitFrom, unitOf, unitStart, unitIn, onJudged, onFrame, walkFrom, walkWords, endPoint, earlier, openBegin, firstOpenFrom, firstOpen}
+use Rattle.serial.specs.Order.{Point, next, phaseOfThread, settled, commits, unitAt, unitsFrom, serialWords, Closed, contiguousAt, Contiguous}
+use Rattle.serial.specs.Walk.{ownFrame, onOwn, unitFrom, unitOf, unitStart, unitIn, onTurn, onFrame, walkFrom, walkWords}
 use Rattle.serial.specs.declared.Own.{Own}
 use Rattle.serial.specs.declared.Own.the-variants as own
 use Rattle.reduction.proofs.Run as run
 use Rattle.reduction.proofs.Run.{threadOf, Run, begin, Good, depthAt, put}
-use Rattle.reduction.proofs.Steps.{by-test}
 use Rattle.reduction.proofs.Serial.{Serial, serial-exchanges, serial-serial}
 use Rattle.reduction.proofs.Units.{walk, serial-walk}
 use Rattle.reduction.proofs.Alike.{Alike, alike-same, alike-inferred, serialOrder-alike}
 use Rattle.orderlaws.proofs.View.{Declared}
-use Rattle.orderlaws.proofs.Recording.{Pass, less-one, pass-made, start-long, start-view, pass-good, order-frames, pass-depth, pass-walk, pass-end, pass-end-long}
+use Rattle.orderlaws.proofs.Recording.{Pass, pass-made, start-long, start-view, pass-good, order-frames, pass-depth, pass-walk, pass-end, pass-end-long}
 
 -- an operation under the chosen locks does the same to locks, depths and commits, and is under no inferred guard
 alike-chosen : (locks : List ℕ) (o : Operation) → Alike o (chosen locks o)
@@ -131,23 +129,14 @@ order-exchanges guards ws r c =
 pub order-length : (guards ws : List ℕ) → Reducible guards ws → Closed ws → length (serialWords guards ws) ≡ length ws
 order-length guards ws r c = sym (exchanges-length independentWords (order-exchanges guards ws r c))
 
--- a thread's depth, in the theory and in the claim
-nest-same : (d : ℕ) (a : Action) → run.nest d a ≡ nest d a
-nest-same d (action.Acquire l) = refl
-nest-same d (action.Release l) = refl
-nest-same d (action.Read v) = refl
-nest-same d (action.Write v) = refl
-nest-same d action.Begin = sym (add-one d)
-nest-same d action.End = sym (less-one d)
-
 serial-contiguous : (d e : ℕ → ℕ) (ws : List ℕ) → AllDecode ws → ((u : ℕ) → d u ≡ e u) → Serial d (framesOf ws) → Contiguous e ws
 unfolding Contiguous
 serial-contiguous d e [] a h s = tt
 serial-contiguous d e (w ∷ ws) a h s = subst (λ (x : Decoded). contiguousAt x e (λ z. Contiguous z ws)) (sym (a .0)) (
   λ u ne. sym (h u) ∙ s .0 u ne,
-  serial-contiguous (put d t (run.nest (d t) (frameOf w .action))) (λ u. cond (eqb u t) (nest (e u) (frameOf w .action)) (e u)) ws (a .1)
+  serial-contiguous (put d t (nest (d t) (frameOf w .action))) (λ u. cond (eqb u t) (nest (e u) (frameOf w .action)) (e u)) ws (a .1)
       (λ u. by-test (eqb u t)
-      (λ q. rw q (nest-same (d t) (frameOf w .action) ∙ ap (λ (x : ℕ). nest x (frameOf w .action)) (ap d (sym (eqb-true _ _ q)) ∙ h u)))
+      (λ q. rw q (ap (λ (x : ℕ). nest x (frameOf w .action)) (ap d (sym (eqb-true _ _ q)) ∙ h u)))
       (λ q. rw q (h u)))
       (s .1),
 )
@@ -182,11 +171,10 @@ unfolding unitOf
 in-decode (At b) all t a = unit-decode t 0 (drop b all) (drop-decode b all a)
 in-decode Absent all t a = tt
 
-turn-decode : (o : Outcome) (v : Verdict) (m : Mark) (all : List ℕ) (t : Thread) (l : List ℕ) → AllDecode all → AllDecode l
-    → AllDecode (onJudged o v (unitIn m all t ++ l))
-turn-decode outcome.Next verdict.Reducible m all t l a b = both-decode (unitIn m all t) l (in-decode m all t a) b
-turn-decode outcome.Next (verdict.Violated v) m all t l a b = tt
-turn-decode (outcome.Bad r) v m all t l a b = tt
+turn-decode : (q : Turn) (m : Mark) (all : List ℕ) (t : Thread) (l : List ℕ) → AllDecode all → AllDecode l → AllDecode (onTurn q (unitIn m all t ++ l))
+turn-decode turn.Next m all t l a b = both-decode (unitIn m all t) l (in-decode m all t a) b
+turn-decode (turn.Refused r) m all t l a b = tt
+turn-decode (turn.Wrong v) m all t l a b = tt
 
 frame-decode : (x : Decoded) (l : Frame → List ℕ) → ((f : Frame) → AllDecode (l f)) → AllDecode (onFrame x l)
 frame-decode (decoded.Frame f) l a = a f
@@ -197,7 +185,7 @@ unfolding walkFrom
 walk-decode guards all i p [] a = tt
 walk-decode guards all i p (w ∷ ws) a =
     frame-decode (decodeWord w) _
-    (λ f. turn-decode (stepFrame f (p .state) .outcome) (judgeFrame guards i f (p .state) (p .judging) .verdict)
+    (λ f. turn-decode (turned guards i f (p .state) (p .judging) .turn)
     (unitStart (phaseOfThread (f .thread) p) (settled (phaseOfThread (f .thread) (next guards i f p))) i) all (f .thread)
     (walkFrom guards all (i + 1) (next guards i f p) ws) a (walk-decode guards all (i + 1) (next guards i f p) ws a))
 
@@ -249,21 +237,22 @@ none-open (suc n) k m depths begins e =
       from-here (λ u. getD depths u 0 ≡ 0) k (k + suc n) (open-absent (getD depths k 0) (getD begins k 0) (q .1)) (λ u p l. ih .1 u p (omega arith)),
     )
 
-open-none : (n k : ℕ) (depths begins : List ℕ) → ((u : ℕ) → getD depths u 0 ≡ 0) → firstOpenFrom n k Absent depths begins ≡ Absent
-unfolding firstOpenFrom
-open-none zero k depths begins h = refl
-open-none (suc n) k depths begins h = rw (h k) (open-none n (k + 1) depths begins h)
+-- The end of a pass.
+abbrev pub lastOf : List ℕ → List ℕ → Ended
+lastOf guards ws = judgeFrom guards 0 start (startJudging fullSets) ws
 
--- A reducible recording is closed exactly if no begin is open at its end.
+-- A reducible recording of which no begin is open at its end is closed.
 module _ (guards ws : List ℕ) (r : Reducible guards ws) where
-  pub end-depth : (t : ℕ) → getD (endPoint guards ws .state .depths) t 0 ≡ getD (checkFrom 0 start ws .state .depths) t 0
+  pub end-depth : (t : ℕ) → getD (lastOf guards ws .state .depths) t 0 ≡ getD (checkFrom 0 start ws .state .depths) t 0
   end-depth t = ap (λ (x : State). getD (x .depths) t 0) (pass-end guards (reducible-pass guards ws r))
 
-  pub closed-open : firstOpen (endPoint guards ws) ≡ Absent → Closed ws
-  closed-open e t = by-test (ltb t 32)
-      (λ q. sym (end-depth t) ∙ none-open 32 0 Absent (endPoint guards ws .state .depths) (endPoint guards ws .judging .begins) e .1 t (omega arith) (omega (arith, ltb-true t 32 q)))
-      (λ q. let l : length (checkFrom 0 start ws .state .depths) ≡ 32 = pass-end-long guards (reducible-pass guards ws r) start-long in
-      List·getD-eq-default (checkFrom 0 start ws .state .depths) 0 (omega (arith, ltb-false t 32 q)))
+  pub open-last : openAtEnd (judgement guards fullSets ws) ≡ firstOpen (lastOf guards ws .state) (lastOf guards ws .judging)
+  open-last =
+      let p = judgement-pass guards fullSets ws (judgement-sound guards fullSets ws verdict.Reducible r) in
+      ap openAtEnd p ∙ rw (sym (ap (λ (x : Ended). x .reply) p) ∙ r)
 
-  pub open-closed : Closed ws → firstOpen (endPoint guards ws) ≡ Absent
-  open-closed c = open-none 32 0 (endPoint guards ws .state .depths) (endPoint guards ws .judging .begins) (λ u. end-depth u ∙ c u)
+  pub closed-open : openAtEnd (judgement guards fullSets ws) ≡ Absent → Closed ws
+  closed-open e t = by-test (ltb t threadCount)
+      (λ q. sym (end-depth t) ∙ none-open threadCount 0 Absent (lastOf guards ws .state .depths) (lastOf guards ws .judging .begins) (sym open-last ∙ e) .1 t (omega arith) (omega (arith, ltb-true t threadCount q)))
+      (λ q. let l : length (checkFrom 0 start ws .state .depths) ≡ threadCount = pass-end-long guards (reducible-pass guards ws r) start-long in
+      List·getD-eq-default (checkFrom 0 start ws .state .depths) 0 (omega (arith, ltb-false t threadCount q)))

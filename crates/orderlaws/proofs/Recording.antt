@@ -9,37 +9,37 @@ use native.Mathlib.Numerals.{add-one}
 use borrow.Author.Tests.{eqb-true, eqb-false, ne-eqb}
 use lib.Dec.{eqb}
 use lib.ListN.{length, getD, drop, length-map}
-use lib.Seq.{drop-drop}
-use Rattle.frame.proofs.Shared.{never, getD-filled}
+use Rattle.turn.specs.Turn.{judgeFrame}
+use Rattle.pass.specs.Pass.{Ended, judgeFrom, startJudging, fullSets}
+use Rattle.frame.specs.Limits.{threadCount, lockCount}
+use Rattle.laws.proofs.Logic.{never}
+use Rattle.laws.proofs.Lists.{getD-filled, rest-of}
 use Rattle.frame.proofs.Laws.{decoded-in-range}
 use Rattle.frame.specs.Frame.{decodeWord}
 use Rattle.frame.specs.declared.Thread.{Thread}
 use Rattle.frame.specs.declared.Frame.{Frame}
 use Rattle.frame.specs.declared.Action.{Action}
-use Rattle.frame.specs.declared.Action.the-variants as action
 use Rattle.frame.specs.declared.Decoded.the-variants as decoded
 use Rattle.reply.specs.Reply.{reducible}
 use Rattle.reply.specs.declared.Verdict.{Verdict}
 use Rattle.reply.specs.declared.Verdict.the-variants as verdict
-use Rattle.soundness.specs.Soundness.{State, stepped, stepFrame, checkFrom, start}
+use Rattle.soundness.specs.Soundness.{State, stepped, stepFrame, checkFrom, start, nest}
 use Rattle.soundness.specs.declared.Outcome.{Outcome}
 use Rattle.soundness.specs.declared.Outcome.the-variants as outcome
 use Rattle.instrumented.specs.Rules.{outside, before, after, Judging, judged, phaseOf}
 use Rattle.operation.specs.Operation.{operationOf}
-use Rattle.pass.specs.Pass.{Ended, judgeFrame, judgeFrom, startJudging, fullSets}
 use Rattle.rules.proofs.Choice.{goes, goes-on}
 use Rattle.exchange.specs.Exchange.{frameOf, framesOf}
 use Rattle.serial.specs.Order.{Point, commitFrom, commitIn, commitsFrom, unitAt, unitsFrom, serialWords, settled}
-use Rattle.serial.specs.Walk.{depthBy, unitFrom, unitOf, unitStart, unitIn, walkFrom, endFrom, onOwn}
+use Rattle.serial.specs.Walk.{unitFrom, unitOf, unitStart, unitIn, walkFrom, onOwn}
 use Rattle.serial.specs.declared.Own.the-variants as own
 use Rattle.reduction.proofs.Run as run
-use Rattle.reduction.proofs.Run.{threadOf, Run, begin, sound, Keyed, Good, onto, commitPlace, keyOf, keyed, nest, depthAt}
+use Rattle.reduction.proofs.Run.{threadOf, Run, begin, sound, Keyed, Good, onto, commitPlace, keyOf, keyed, depthAt}
 use Rattle.reduction.proofs.Sort.{frames, bucket, buckets}
-use Rattle.reduction.proofs.Steps.{by-test}
 use Rattle.reduction.proofs.Serial.{serialOrder, frames-append, frames-keyed, depth-next}
 use Rattle.reduction.proofs.Units as units
 use Rattle.reduction.proofs.Units.{openFrom, emitted, walk}
-use Rattle.orderlaws.proofs.View.{viewOf, Long, Declared, One, run-equal, one-frame}
+use Rattle.orderlaws.proofs.View.{viewOf, Long, Declared, OneFrame, run-equal, one-frame}
 
 abbrev pub point : State → Judging → Point
 point s j = record { state = s; judging = j }
@@ -49,7 +49,7 @@ pub data Pass (guards : List ℕ) : ℕ → State → Judging → List ℕ → T
   end : {i : ℕ} {s : State} {j : Judging} → Pass guards i s j []
   on : {i : ℕ} {s : State} {j : Judging} {w : ℕ} {ws : List ℕ} {f : Frame} {n : State} {k : Judging} → decodeWord w ≡ decoded.Frame f
       → stepFrame f s ≡ stepped outcome.Next n → judgeFrame guards i f s j ≡ judged verdict.Reducible k
-      → One i (f .thread .0) (operationOf guards (f .action)) s j n k → Pass guards (suc i) n k ws → Pass guards i s j (w ∷ ws)
+      → OneFrame guards i f s j n k → Pass guards (suc i) n k ws → Pass guards i s j (w ∷ ws)
 
 pub pass-made : (guards : List ℕ) (i : ℕ) (s : State) (j : Judging) (ws : List ℕ) → judgeFrom guards i s j ws .reply ≡ reducible → Long s j
     → Pass guards i s j ws
@@ -73,7 +73,7 @@ start-long = record { owners-long = refl; depths-long = refl; begins-long = refl
 
 pub start-view : viewOf start (startJudging fullSets) ≡ begin
 unfolding start startJudging
-start-view = run-equal (λ m. getD-filled 64 m 0) (λ t. getD-filled 32 t 0) (λ t. rw (getD-filled 32 t 0))
+start-view = run-equal (λ m. getD-filled lockCount m 0) (λ t. getD-filled threadCount t 0) (λ t. rw (getD-filled threadCount t 0))
 
 -- the phases
 settled-view : (s : State) (j : Judging) (t : ℕ)
@@ -174,7 +174,7 @@ module _ (guards : List ℕ) where
       ∙ ap (λ (m : ℕ). frames (buckets m 0 (keyed guards begin 0 (framesOf ws)))) (sym (length-map ws frameOf)))
 
   -- a thread's depth after a frame
-  pub depth-now : (t : ℕ) {i : ℕ} {s n : State} {j k : Judging} (f : Frame) → One i (threadOf f) (operationOf guards (f .action)) s j n k
+  pub depth-now : (t : ℕ) {i : ℕ} {s n : State} {j k : Judging} (f : Frame) → OneFrame guards i f s j n k
       → getD (n .depths) t 0 ≡ cond (eqb (threadOf f) t) (nest (getD (s .depths) t 0) (f .action)) (getD (s .depths) t 0)
   depth-now t {i} {s} {n} {j} {k} f o = ap (λ (x : Run). x .depth t) (o .run) ∙ depth-next guards t (viewOf s j) i f
 
@@ -185,17 +185,6 @@ module _ (guards : List ℕ) where
   pass-depth t end = refl
   pass-depth t (on {i = i} {ws = ws} {f = f} d g a o rest) =
       rw (d, g, add-one i) (ap (λ (x : ℕ). depthAt t x (framesOf ws)) (sym (depth-now t f o)) ∙ pass-depth t rest)
-
-  -- a sound frame's depth is the code's
-  depth-by : (s : State) (j : Judging) (t : ℕ) (a : Action) → sound (viewOf s j) t (operationOf guards a) ≡ true
-      → depthBy a (getD (s .depths) t 0) ≡ nest (getD (s .depths) t 0) a
-  depth-by s j t (action.Acquire l) e = refl
-  depth-by s j t (action.Release l) e = refl
-  depth-by s j t (action.Read v) e = refl
-  depth-by s j t (action.Write v) e = refl
-  depth-by s j t action.Begin e = rw e (add-one (getD (s .depths) t 0))
-  depth-by s j t action.End e = by-test (eqb (getD (s .depths) t 0) 0)
-      (λ q. rw q (sym (ap pred (eqb-true (getD (s .depths) t 0) 0 q)))) (λ q. rw q (less-one (getD (s .depths) t 0)))
 
   -- The unit of a thread, from a place at which its frames are listed.
   pub unit-frames : (t : Thread) {i : ℕ} {s : State} {j : Judging} {ws : List ℕ} → Pass guards i s j ws
@@ -214,9 +203,6 @@ module _ (guards : List ℕ) where
       after-other : eqb (threadOf f) (t .0) ≡ false → getD (n .depths) (t .0) 0 ≡ m
       after-other e = depth-now (t .0) f o ∙ rw e
 
-      by : eqb (threadOf f) (t .0) ≡ true → depthBy (f .action) m ≡ nest m (f .action)
-      by e = depth-by s j (t .0) (f .action) (subst (λ (x : ℕ). sound (viewOf s j) x (operationOf guards (f .action)) ≡ true) (eqb-true _ _ e) (o .passes))
-
       more : (b : Bool) (x : ℕ) → framesOf (unitFrom t x ws) ≡ units.unitFrom (t .0) x (framesOf ws)
           → framesOf (w ∷ cond b [] (unitFrom t x ws)) ≡ f ∷ cond b [] (units.unitFrom (t .0) x (framesOf ws))
       more true x ih = frames-first w f [] d
@@ -224,12 +210,11 @@ module _ (guards : List ℕ) where
 
       go : (b : Bool) → eqb (threadOf f) (t .0) ≡ b
           → framesOf (unitFrom t (getD (n .depths) (t .0) 0) ws) ≡ units.unitFrom (t .0) (getD (n .depths) (t .0) 0) (framesOf ws)
-          → framesOf (onOwn (cond b (own.Mine (depthBy (f .action) m)) own.Other) w m (λ e. unitFrom t e ws))
+          → framesOf (onOwn (cond b (own.Mine (nest m (f .action))) own.Other) w m (λ e. unitFrom t e ws))
           ≡ cond b (f ∷ cond (eqb (nest m (f .action)) 0) [] (units.unitFrom (t .0) (nest m (f .action)) (framesOf ws)))
           (units.unitFrom (t .0) m (framesOf ws))
       go true e ih =
-          ap (λ (x : ℕ). framesOf (w ∷ cond (eqb x 0) [] (unitFrom t x ws))) (by e)
-          ∙ more (eqb (nest m (f .action)) 0) (nest m (f .action))
+          more (eqb (nest m (f .action)) 0) (nest m (f .action))
           (subst (λ (x : ℕ). framesOf (unitFrom t x ws) ≡ units.unitFrom (t .0) x (framesOf ws)) (after-own e) ih)
       go false e ih = subst (λ (x : ℕ). framesOf (unitFrom t x ws) ≡ units.unitFrom (t .0) x (framesOf ws)) (after-other e) ih
 
@@ -247,7 +232,7 @@ module _ (guards : List ℕ) where
       ∙ subst (λ (x : ℕ). framesOf (unitFrom (record { 0 = u }) x ws) ≡ units.unitFrom u x (framesOf ws)) z (unit-frames (record { 0 = u }) p)
 
   opens-next : (all : List ℕ) (q : ℕ → List Frame) {i w : ℕ} {s n : State} {j k : Judging} {ws : List ℕ} (f : Frame)
-      → decodeWord w ≡ decoded.Frame f → One i (threadOf f) (operationOf guards (f .action)) s j n k → Pass guards i s j (w ∷ ws)
+      → decodeWord w ≡ decoded.Frame f → OneFrame guards i f s j n k → Pass guards i s j (w ∷ ws)
       → drop i all ≡ w ∷ ws → Opens all s j q → Opens all n k (openFrom (viewOf s j) q f (framesOf ws))
   opens-next all q {i} {w} {s} {n} {j} {k} {ws} f d o p e h u ne =
       ap (λ (b : ℕ). framesOf (unitOf all b (record { 0 = u }))) (o .begun u ne)
@@ -265,9 +250,6 @@ module _ (guards : List ℕ) where
       go true false a b = h u (λ z. eqb-false _ _ b (ap (λ (x : ℕ). getD (s .depths) x 0) (sym (eqb-true _ _ a)) ∙ z))
       go false b a c = h u (others a)
 
-  drop-next : (all : List ℕ) (i w : ℕ) (ws : List ℕ) → drop i all ≡ w ∷ ws → drop (suc i) all ≡ ws
-  drop-next all i w ws e = ap (λ (m : ℕ). drop m all) (sym (add-one i)) ∙ (sym (drop-drop 1 i all) ∙ ap (λ (l : List ℕ). drop 1 l) e)
-
   -- The walk over the words is the walk over the frames.
   pub pass-walk : (all : List ℕ) (q : ℕ → List Frame) {i : ℕ} {s : State} {j : Judging} {ws : List ℕ} → Pass guards i s j ws → drop i all ≡ ws
       → Opens all s j q → framesOf (walkFrom guards all i (point s j) ws) ≡ walk guards (viewOf s j) q i (framesOf ws)
@@ -279,7 +261,7 @@ module _ (guards : List ℕ) where
       (walkFrom guards all (suc i) (point n k) ws)
       ∙ (ap (λ (x : List Frame). x ++ framesOf (walkFrom guards all (suc i) (point n k) ws)) here
       ∙ ap (λ (x : List Frame). emitted guards (viewOf s j) q i f (framesOf ws) ++ x)
-      (pass-walk all (openFrom (viewOf s j) q f (framesOf ws)) rest (drop-next all i w ws e) (opens-next all q f d o (on d g a o rest) e h)
+      (pass-walk all (openFrom (viewOf s j) q f (framesOf ws)) rest (rest-of all i w ws e .2) (opens-next all q f d o (on d g a o rest) e h)
       ∙ ap (λ (x : Run). walk guards x (openFrom (viewOf s j) q f (framesOf ws)) (suc i) (framesOf ws)) (o .run))))
     where
       t : ℕ
@@ -312,12 +294,12 @@ module _ (guards : List ℕ) where
           ∙ go (eqb m 0) (eqb c 0) (run.settled (onto guards (viewOf s j) i f) t) refl refl
 
   -- The end of the walk is that of the check.
-  pub pass-end : {i : ℕ} {s : State} {j : Judging} {ws : List ℕ} → Pass guards i s j ws → endFrom guards i (point s j) ws .state ≡ checkFrom i s ws .state
-  unfolding endFrom checkFrom
+  pub pass-end : {i : ℕ} {s : State} {j : Judging} {ws : List ℕ} → Pass guards i s j ws → judgeFrom guards i s j ws .state ≡ checkFrom i s ws .state
+  unfolding judgeFrom checkFrom
   pass-end end = refl
   pass-end (on {i = i} d g a o rest) = rw (d, g, a, add-one i) (pass-end rest)
 
-  pub pass-end-long : {i : ℕ} {s : State} {j : Judging} {ws : List ℕ} → Pass guards i s j ws → Long s j → length (checkFrom i s ws .state .depths) ≡ 32
+  pub pass-end-long : {i : ℕ} {s : State} {j : Judging} {ws : List ℕ} → Pass guards i s j ws → Long s j → length (checkFrom i s ws .state .depths) ≡ threadCount
   unfolding checkFrom
   pass-end-long end z = z .depths-long
   pass-end-long (on {i = i} d g a o rest) z = rw (d, g, add-one i) (pass-end-long rest (o .long))

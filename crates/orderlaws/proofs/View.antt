@@ -1,16 +1,18 @@
 -- The run that a state of the judging pass stands for, and one frame: where the pass goes on, its next state stands for the run's next.
 -- In this order: the run of a state, entries put into it, one operation that does not go wrong, one frame.
-use Prim.Native.Nat.{ℕ, suc, pred, _+_, _-_, _<_}
+use Prim.Native.Nat.{ℕ, suc, _+_, _-_, _<_}
 use mathlib.Core.Path.{_≡_, refl, sym, ap, _∙_, fun-ext}
 use mathlib.Core.Bool.{Bool, true, false, cond, _&&_}
 use mathlib.Core.List.{List}
 use native.Mathlib.Omega.{arith}
 use native.Mathlib.Numerals.{add-one}
-use borrow.Author.Tests.{eqb-true, eqb-false, eq-eqb, ne-eqb, leb-true, leb-false, lt-ltb}
+use borrow.Author.Tests.{eqb-true, eqb-false, leb-false, lt-ltb}
 use lib.Bits.{bitAnd}
 use lib.Dec.{eqb, leb, ltb}
 use lib.ListN.{length, getD, set, length-set}
-use Rattle.frame.proofs.Shared.{never}
+use Rattle.frame.specs.Limits.{threadCount, lockCount, deepest}
+use Rattle.laws.proofs.Logic.{never}
+use Rattle.laws.proofs.Lists.{getD-set}
 use Rattle.frame.specs.Frame.{ObjectInRange, InRange}
 use Rattle.frame.specs.declared.Thread.{Thread}
 use Rattle.frame.specs.declared.Lock.{Lock}
@@ -23,7 +25,7 @@ use Rattle.guards.specs.declared.Guard.{Guard}
 use Rattle.guards.specs.declared.Guard.the-variants as guard
 use Rattle.reply.specs.declared.Violation.{Violation}
 use Rattle.reply.specs.declared.Verdict.the-variants as verdict
-use Rattle.soundness.specs.Soundness.{State, Stepped, stateOf, stepped, stepAction, stepFrame}
+use Rattle.soundness.specs.Soundness.{State, Stepped, nest, stateOf, stepped, stepAction, stepFrame}
 use Rattle.soundness.specs.declared.Outcome.the-variants as outcome
 use Rattle.soundness.proofs.Laws.{passed, spared}
 use Rattle.instrumented.specs.Rules.{outside, before, after, Judging, judgingOf, Judged, judged, contains, committed, withCommit, acquireIn, unprotectedIn, judgeOperation}
@@ -31,9 +33,9 @@ use Rattle.operation.specs.Operation.{guardedAccess, operationOf}
 use Rattle.instrumented.specs.Held.{heldSet}
 use Rattle.operation.specs.declared.Operation.{Operation}
 use Rattle.operation.specs.declared.Operation.the-variants.{Acquire, Release, Protected, Unprotected, Inferred, Begin, End}
-use Rattle.pass.specs.Pass.{judgeFrame}
-use Rattle.rules.proofs.Store.{held-is, getD-set}
-use Rattle.reduction.proofs.Run.{Run, put, sound, right, afterwards, mark}
+use Rattle.turn.specs.Turn.{judgeFrame}
+use Rattle.rules.proofs.Store.{held-is}
+use Rattle.reduction.proofs.Run.{Run, put, sound, right, afterwards, committing, commitAfter}
 use Rattle.reduction.proofs.Steps.{put-cases}
 
 -- The code forgets a commit at the next outermost begin, the run at the outermost end: outside a block the commit counts as none.
@@ -46,10 +48,10 @@ viewOf s j = record {
 
 -- The lists have an entry for each lock and each thread.
 pub record Long (s : State) (j : Judging) : Type 0 where
-  pub owners-long : length (s .owners) ≡ 64
-  pub depths-long : length (s .depths) ≡ 32
-  pub begins-long : length (j .begins) ≡ 32
-  pub commits-long : length (j .commits) ≡ 32
+  pub owners-long : length (s .owners) ≡ lockCount
+  pub depths-long : length (s .depths) ≡ threadCount
+  pub begins-long : length (j .begins) ≡ threadCount
+  pub commits-long : length (j .commits) ≡ threadCount
 
 -- The operation is under no inferred guard.
 abbrev pub Declared : Operation → Type 0
@@ -61,14 +63,18 @@ Declared (Inferred v) = ⊥
 Declared Begin = Unit {0}
 Declared End = Unit {0}
 
--- What an operation of thread t at place i does that leads from s and j to n and k.
-pub record One (i t : ℕ) (o : Operation) (s : State) (j : Judging) (n : State) (k : Judging) : Type 0 where
-  pub run : viewOf n k ≡ afterwards (viewOf s j) i t o
+-- What an operation of thread t at place i does that leaves the thread at depth d, and leads from s and j to n and k.
+pub record One (i t d : ℕ) (o : Operation) (s : State) (j : Judging) (n : State) (k : Judging) : Type 0 where
+  pub run : viewOf n k ≡ afterwards (viewOf s j) i t d o
   pub passes : sound (viewOf s j) t o ≡ true
   pub rightly : Declared o → right (viewOf s j) t o ≡ true
   pub long : Long n k
   pub begun : (u : ℕ) → (getD (n .depths) u 0 ≡ 0 → ⊥)
       → getD (k .begins) u 0 ≡ cond (eqb u t && eqb (getD (s .depths) t 0) 0) i (getD (j .begins) u 0)
+
+-- What a frame does.
+abbrev pub OneFrame : List ℕ → ℕ → Frame → State → Judging → State → Judging → Type 0
+OneFrame guards i f s j n k = One i (f .thread .0) (nest (getD (s .depths) (f .thread .0) 0) (f .action)) (operationOf guards (f .action)) s j n k
 
 -- two runs with the same entries
 pub run-equal : {o o′ d d′ c c′ : ℕ → ℕ} → ((m : ℕ) → o m ≡ o′ m) → ((u : ℕ) → d u ≡ d′ u) → ((u : ℕ) → c u ≡ c′ u)
@@ -127,15 +133,18 @@ unprotected-right b c i t n j k false true f e = (f, sym (ap (λ (x : Judged). x
 unprotected-right b c i t n j k false false f e =
     let z : unprotectedIn (after b (c - 1)) i t n j .verdict ≡ verdict.Reducible = ap (λ (x : Judged). x .verdict) e in never (cc)
 
--- a thread's commit after a frame that commits its block
-mark-view : (d c i : ℕ) → cond (eqb d 0) 0 (committed d c i) ≡ mark d (cond (eqb d 0) 0 c) i Unprotected
-mark-view d c i = go (eqb d 0)
+-- a thread's commit after an operation that is no begin and no end
+commit-view : (d c i : ℕ) (k : Operation)
+    → cond (eqb d 0) 0 (cond (committing k) (committed d c i) c) ≡ commitAfter d (cond (eqb d 0) 0 c) i k
+commit-view d c i k = go (eqb d 0) (committing k)
   where
-    go : (b : Bool) → cond b 0 (cond b c (cond (eqb c 0) (i + 1) c)) ≡ cond b (cond b 0 c) (cond (eqb (cond b 0 c) 0) (suc i) (cond b 0 c))
-    go true = refl
-    go false = rw add-one
+    go : (b v : Bool)
+        → cond b 0 (cond v (cond b c (cond (eqb c 0) (i + 1) c)) c) ≡ cond b 0 (cond (v && eqb (cond b 0 c) 0) (suc i) (cond b 0 c))
+    go true v = refl
+    go false true = rw add-one
+    go false false = refl
 
-module _ (s : State) (j : Judging) (z : Long s j) (i : ℕ) (t : Thread) (small : t .0 < 32) where
+module _ (s : State) (j : Judging) (z : Long s j) (i : ℕ) (t : Thread) (small : t .0 < threadCount) where
   -- the thread's depth and commit
   abbrev deep : ℕ
   deep = getD (s .depths) (t .0) 0
@@ -168,7 +177,7 @@ module _ (s : State) (j : Judging) (z : Long s j) (i : ℕ) (t : Thread) (small 
   same-commit u = put-back (λ x. getD (j .commits) x 0) (t .0) u
 
   -- the locks after an acquire and a release
-  set-owner : (l v x : ℕ) → l < 64 → getD (set (s .owners) l v) x 0 ≡ put (λ m. getD (s .owners) m 0) l v x
+  set-owner : (l v x : ℕ) → l < lockCount → getD (set (s .owners) l v) x 0 ≡ put (λ m. getD (s .owners) m 0) l v x
   set-owner l v x h = getD-set (s .owners) l v x (omega (arith, z .owners-long))
 
   long-owner : (l v : ℕ) → Long (stateOf (set (s .owners) l v) (s .depths)) j
@@ -196,12 +205,12 @@ module _ (s : State) (j : Judging) (z : Long s j) (i : ℕ) (t : Thread) (small 
   }
 
   -- an acquire
-  one-acquire : (l : Lock) → l .0 < 64 → eqb (getD (s .owners) (l .0) 0) 0 ≡ true
+  one-acquire : (l : Lock) → l .0 < lockCount → eqb (getD (s .owners) (l .0) 0) 0 ≡ true
       → eqb (viewOf s j .committed (t .0)) 0 ≡ true
-      → One i (t .0) (Acquire l) s j (stateOf (set (s .owners) (l .0) (t .0 + 1)) (s .depths)) j
+      → One i (t .0) deep (Acquire l) s j (stateOf (set (s .owners) (l .0) (t .0 + 1)) (s .depths)) j
   one-acquire l h e q = record {
     run = view-put s (stateOf (set (s .owners) (l .0) (t .0 + 1)) (s .depths)) j j (t .0) deep done _ _
-        (λ x. rw add-one (set-owner (l .0) (suc (t .0)) x h)) same-depth same-commit refl;
+        (λ x. rw add-one (set-owner (l .0) (suc (t .0)) x h)) same-depth same-commit (commit-view deep done i (Acquire l));
     passes = e;
     rightly = λ x. q;
     long = long-owner (l .0) (t .0 + 1);
@@ -209,11 +218,11 @@ module _ (s : State) (j : Judging) (z : Long s j) (i : ℕ) (t : Thread) (small 
   }
 
   -- a release
-  one-release : (l : Lock) → l .0 < 64 → eqb (getD (s .owners) (l .0) 0) (t .0 + 1) ≡ true
-      → One i (t .0) (Release l) s j (stateOf (set (s .owners) (l .0) 0) (s .depths)) (withCommit t (committed deep done i) j)
+  one-release : (l : Lock) → l .0 < lockCount → eqb (getD (s .owners) (l .0) 0) (t .0 + 1) ≡ true
+      → One i (t .0) deep (Release l) s j (stateOf (set (s .owners) (l .0) 0) (s .depths)) (withCommit t (committed deep done i) j)
   one-release l h e = record {
     run = view-put s (stateOf (set (s .owners) (l .0) 0) (s .depths)) j (withCommit t (committed deep done i) j) (t .0) deep (committed deep done i) _ _
-        (λ x. set-owner (l .0) 0 x h) same-depth (set-commit (committed deep done i)) (mark-view deep done i);
+        (λ x. set-owner (l .0) 0 x h) same-depth (set-commit (committed deep done i)) (commit-view deep done i (Release l));
     passes = rw add-one at e;
     rightly = λ x. refl;
     long = long-commit (stateOf (set (s .owners) (l .0) 0) (s .depths)) (committed deep done i) (long-owner (l .0) 0);
@@ -221,18 +230,17 @@ module _ (s : State) (j : Judging) (z : Long s j) (i : ℕ) (t : Thread) (small 
   }
 
   -- an access, by its guard
-  same-view : viewOf s j
-      ≡ record { owner = viewOf s j .owner; depth = put (viewOf s j .depth) (t .0) deep; committed = put (viewOf s j .committed) (t .0) (viewOf s j .committed (t .0)) }
-  same-view = view-put s s j j (t .0) deep done _ _ (λ x. refl) same-depth same-commit refl
+  same-view : (v : Variable) → viewOf s j ≡ afterwards (viewOf s j) i (t .0) deep (Inferred v)
+  same-view v = view-put s s j j (t .0) deep done _ _ (λ x. refl) same-depth same-commit (commit-view deep done i (Inferred v))
 
   one-access : (g : Guard) (v : Variable) (k : Judging)
       → judgeOperation i t deep (heldSet (t .0) (s .owners)) (guardedAccess g v) j ≡ judged verdict.Reducible k
-      → One i (t .0) (guardedAccess g v) s j s k
+      → One i (t .0) deep (guardedAccess g v) s j s k
   unfolding judgeOperation
   one-access (guard.Locked m) v k e =
       let q = then-right (contains (heldSet (t .0) (s .owners)) m) _ _ k _ e in
       rw (q .1) record {
-        run = same-view;
+        run = same-view v;
         passes = refl;
         rightly = λ x. rw (held-is, add-one) at (q .0);
         long = z;
@@ -242,7 +250,7 @@ module _ (s : State) (j : Judging) (z : Long s j) (i : ℕ) (t : Thread) (small 
       let q = unprotected-right (getD (j .begins) (t .0) 0) done i t (withCommit t (committed deep done i) j) j k (eqb deep 0) (eqb done 0) refl e in
       rw (q .1) record {
         run = view-put s s j (withCommit t (committed deep done i) j) (t .0) deep (committed deep done i) _ _
-            (λ x. refl) same-depth (set-commit (committed deep done i)) (mark-view deep done i);
+            (λ x. refl) same-depth (set-commit (committed deep done i)) (commit-view deep done i Unprotected);
         passes = refl;
         rightly = λ x. q .0;
         long = long-commit s (committed deep done i) z;
@@ -251,7 +259,7 @@ module _ (s : State) (j : Judging) (z : Long s j) (i : ℕ) (t : Thread) (small 
   one-access guard.Inferred v k e =
       let q = else-right (eqb (bitAnd (getD (j .sets) (v .0) 0) (heldSet (t .0) (s .owners))) 0) _ _ k _ e in
       rw (q .1) record {
-        run = same-view;
+        run = same-view v;
         passes = refl;
         rightly = λ x. absurd x;
         long = record { owners-long = z .owners-long; depths-long = z .depths-long; begins-long = z .begins-long; commits-long = z .commits-long };
@@ -259,8 +267,8 @@ module _ (s : State) (j : Judging) (z : Long s j) (i : ℕ) (t : Thread) (small 
       }
 
   -- a begin, outermost and nested
-  one-begin : leb 15 deep ≡ false → (k : Judging) → judgeOperation i t deep (heldSet (t .0) (s .owners)) Begin j ≡ judged verdict.Reducible k
-      → One i (t .0) Begin s j (stateOf (s .owners) (set (s .depths) (t .0) (deep + 1))) k
+  one-begin : leb deepest deep ≡ false → (k : Judging) → judgeOperation i t deep (heldSet (t .0) (s .owners)) Begin j ≡ judged verdict.Reducible k
+      → One i (t .0) (deep + 1) Begin s j (stateOf (s .owners) (set (s .depths) (t .0) (deep + 1))) k
   unfolding judgeOperation
   one-begin h k e = go (eqb deep 0) refl e
     where
@@ -270,8 +278,8 @@ module _ (s : State) (j : Judging) (z : Long s j) (i : ℕ) (t : Thread) (small 
       outer : Judging
       outer = judgingOf (set (j .begins) (t .0) i) (set (j .commits) (t .0) 0) (j .sets)
 
-      low : ltb deep 15 ≡ true
-      low = lt-ltb deep 15 (leb-false 15 deep h)
+      low : ltb deep deepest ≡ true
+      low = lt-ltb deep deepest (leb-false deepest deep h)
 
       begun-outer : eqb deep 0 ≡ true → (u : ℕ) → getD (set (j .begins) (t .0) i) u 0 ≡ cond (eqb u (t .0) && eqb deep 0) i (getD (j .begins) u 0)
       begun-outer q u = getD-set (j .begins) (t .0) i u (omega (arith, z .begins-long)) ∙ rw q (both (eqb u (t .0)))
@@ -288,9 +296,9 @@ module _ (s : State) (j : Judging) (z : Long s j) (i : ℕ) (t : Thread) (small 
           both false = refl
 
       go : (b : Bool) → eqb deep 0 ≡ b → cond b (judged verdict.Reducible outer) (judged verdict.Reducible j) ≡ judged verdict.Reducible k
-          → One i (t .0) Begin s j n k
+          → One i (t .0) (deep + 1) Begin s j n k
       go true q r = rw (sym (ap (λ (x : Judged). x .judging) r)) record {
-        run = view-put s n j outer (t .0) (suc deep) 0 _ _ (λ x. refl) (λ u. rw add-one (set-depth (suc deep) u)) (set-commit 0) (rw (ne-eqb (suc deep) 0 (omega arith), q));
+        run = view-put s n j outer (t .0) (deep + 1) 0 _ _ (λ x. refl) (set-depth (deep + 1)) (set-commit 0) (rw q);
         passes = low;
         rightly = λ x. refl;
         long = record {
@@ -302,7 +310,7 @@ module _ (s : State) (j : Judging) (z : Long s j) (i : ℕ) (t : Thread) (small 
         begun = λ u ne. begun-outer q u;
       }
       go false q r = rw (sym (ap (λ (x : Judged). x .judging) r)) record {
-        run = view-put s n j j (t .0) (suc deep) done _ _ (λ x. refl) (λ u. rw add-one (set-depth (suc deep) u)) same-commit (rw (ne-eqb (suc deep) 0 (omega arith), q));
+        run = view-put s n j j (t .0) (deep + 1) done _ _ (λ x. refl) (set-depth (deep + 1)) same-commit (rw q);
         passes = low;
         rightly = λ x. refl;
         long = long-depth (deep + 1);
@@ -310,17 +318,10 @@ module _ (s : State) (j : Judging) (z : Long s j) (i : ℕ) (t : Thread) (small 
       }
 
   -- an end
-  end-view : eqb deep 0 ≡ false → cond (eqb (pred deep) 0) 0 done ≡ mark deep (viewOf s j .committed (t .0)) i End
-  end-view h = rw h (go (leb deep 1) refl)
-    where
-      go : (b : Bool) → leb deep 1 ≡ b → cond (eqb (pred deep) 0) 0 done ≡ cond b 0 done
-      go true q = rw (eq-eqb (pred deep) 0 (omega (arith, leb-true deep 1 q)))
-      go false q = rw (ne-eqb (pred deep) 0 (omega (arith, leb-false deep 1 q)))
-
-  one-end : eqb deep 0 ≡ false → One i (t .0) End s j (stateOf (s .owners) (set (s .depths) (t .0) (deep - 1))) j
+  one-end : eqb deep 0 ≡ false → One i (t .0) (deep - 1) End s j (stateOf (s .owners) (set (s .depths) (t .0) (deep - 1))) j
   one-end h = record {
-    run = view-put s (stateOf (s .owners) (set (s .depths) (t .0) (deep - 1))) j j (t .0) (pred deep) done _ _ (λ x. refl)
-        (λ u. ap (λ (d : ℕ). getD (set (s .depths) (t .0) d) u 0) same ∙ set-depth (pred deep) u) same-commit (end-view h);
+    run = view-put s (stateOf (s .owners) (set (s .depths) (t .0) (deep - 1))) j j (t .0) (deep - 1) done _ _ (λ x. refl) (set-depth (deep - 1))
+        same-commit (rw h);
     passes = lt-ltb 0 deep (omega (arith, eqb-false deep 0 h));
     rightly = λ x. refl;
     long = long-depth (deep - 1);
@@ -328,14 +329,11 @@ module _ (s : State) (j : Judging) (z : Long s j) (i : ℕ) (t : Thread) (small 
         (λ u y. set-depth (deep - 1) u ∙ put-cases (λ v. v ≡ 0) (λ x. getD (s .depths) x 0) (t .0) (deep - 1) u
         (λ q. absurd (eqb-false deep 0 h (ap (λ (x : ℕ). getD (s .depths) x 0) (sym q) ∙ y))) (λ q. y));
   }
-    where
-      same : deep - 1 ≡ pred deep
-      same = omega arith
 
   -- any action
   one-action : (guards : List ℕ) (n : State) (k : Judging) (a : Action) → ObjectInRange a → stepAction (t .0) a s ≡ stepped outcome.Next n
       → judgeOperation i t deep (heldSet (t .0) (s .owners)) (operationOf guards a) j ≡ judged verdict.Reducible k
-      → One i (t .0) (operationOf guards a) s j n k
+      → One i (t .0) (nest deep a) (operationOf guards a) s j n k
   unfolding stepAction judgeOperation
   one-action guards n k (action.Acquire l) h e r =
       let p = passed (eqb (getD (s .owners) (l .0) 0) 0) _ s _ n e in
@@ -349,7 +347,7 @@ module _ (s : State) (j : Judging) (z : Long s j) (i : ℕ) (t : Thread) (small 
   one-action guards n k (action.Write v) h e r =
       rw (sym (ap (λ (x : Stepped). x .state) e)) (one-access (guardOf (getD guards (v .0) 0)) v k r)
   one-action guards n k action.Begin h e r =
-      let p = spared (leb 15 deep) _ s _ n e in
+      let p = spared (leb deepest deep) _ s _ n e in
       rw (p .1) (one-begin (p .0) k r)
   one-action guards n k action.End h e r =
       let p = spared (eqb deep 0) _ s _ n e in
@@ -358,5 +356,5 @@ module _ (s : State) (j : Judging) (z : Long s j) (i : ℕ) (t : Thread) (small 
 -- One frame of the pass is one step of the run.
 pub one-frame : (guards : List ℕ) (i : ℕ) (f : Frame) (s n : State) (j k : Judging) → Long s j → InRange f
     → stepFrame f s ≡ stepped outcome.Next n → judgeFrame guards i f s j ≡ judged verdict.Reducible k
-    → One i (f .thread .0) (operationOf guards (f .action)) s j n k
+    → OneFrame guards i f s j n k
 one-frame guards i f s n j k z r e v = one-action s j z i (f .thread) (r .thread) guards n k (f .action) (r .object) e v

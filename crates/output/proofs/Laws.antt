@@ -9,7 +9,7 @@ use lib.Dec.{ltb}
 use lib.ListN.{length, set, take, drop, length-set}
 use lib.Seq.{append-snoc, sets, sets-eq}
 use borrow.Author.Tests.{lt-ltb, le-ltb, ltb-true, ltb-false, ne-eqb}
-use Rattle.frame.proofs.Shared.{drop-stored}
+use Rattle.laws.proofs.Lists.{drop-stored}
 use Rattle.output.specs.Output.{after, behind, written, decimalDigits}
 
 -- writing t into b from `at` on leaves b' and the place p
@@ -59,10 +59,6 @@ put-more {b} {at} {s} {t} {o} {q} {b'} {p} x y = record {
   place = y .place ∙ rw (x .contents, x .place, length-written b at s) (sym (behind-more (length b) at s t));
   contents = y .contents ∙ rw (x .contents, x .place) (sym (written-more b at s t));
 }
-
--- the place in a buffer of the same length
-pub put-length : {b : List ℕ} {at : ℕ} {t b' : List ℕ} {p : ℕ} → Put b at t b' p → length b' ≡ length b
-put-length {b} {at} {t} x = ap length (x .contents) ∙ length-written b at t
 
 -- one more digit stored in front of those stored before
 pub digit-stored : (d : List ℕ) (j v : ℕ) → j < length d → 0 < v

@@ -1,11 +1,13 @@
 -- Text written into a lent buffer, as far as there is room, and numbers and sets of locks as text.
-use Prim.Native.Nat.{ℕ, zero, suc, _+_, _-_, _/_, _%_}
+-- Quotes are from docs/FORMAT.md.
+use Prim.Native.Nat.{ℕ, zero, suc, _+_, _/_, _%_}
 use Prim.Native.Char.{code}
 use Prim.Native.String.{String, [] as empty, _∷_ as _then_}
 use mathlib.Core.Bool.{cond}
 use mathlib.Core.List.{List, [], _∷_, _++_}
 use lib.ListN.{length, set}
 use lib.Dec.{ltb, eqb}
+use Rattle.frame.specs.Limits.{lockCount, allLocks}
 
 -- The bytes of a text of characters below 128.
 unfoldable pub bytes : String → List ℕ
@@ -44,6 +46,6 @@ unfoldable pub listed : ℕ → ℕ → ℕ → List ℕ
 listed zero n s = []
 listed (suc k) n s = lockText n s ++ listed k (suc n) (s / 2)
 
--- A set of locks: "none", "all 64", or the numbers. "Lock n is bit n of a 64-bit set."
+-- A set of locks: "none", "all 64", or the numbers (docs/TOOL.md). "Lock n is bit n of a 64-bit set."
 unfoldable pub locksText : ℕ → List ℕ
-locksText s = cond (eqb s 0) (bytes "none") (cond (eqb s 18446744073709551615) (bytes "all 64") (listed 64 0 s))
+locksText s = cond (eqb s 0) (bytes "none") (cond (eqb s allLocks) (bytes "all 64") (listed lockCount 0 s))

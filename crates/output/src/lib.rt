@@ -1,13 +1,17 @@
 // Text written into a lent buffer from a place on, as far as there is room. Each function replies the place behind what it wrote.
+use frame::ALL_LOCKS;
+use frame::LOCKS;
 ghost use mathlib.Core.Path.{_≡_};
 ghost use mathlib.Core.List.{[], _∷_};
 ghost use lib.ListN.{length};
+ghost use Rattle.frame.specs.Limits.{lockCount};
 ghost use Rattle.output.specs.Output.{behind, written, decimal, lockText, listed, locksText};
 
 // The most digits of a 64-bit number.
 const DIGITS: usize = 20;
 
-const ALL: u64 = 18446744073709551615;
+// The first number that names no lock.
+const LOCK_END: u64 = LOCKS as u64;
 
 pub fn put_byte(out: &mut [u8], at: usize, b: u8) -> usize
     ensures place { λ r. ⌜ r ≡ behind (length (now (out .entry))) at (b ∷ []) ⌝ }
@@ -72,13 +76,13 @@ fn put_lock(out: &mut [u8], at: usize, n: u64, s: u64) -> usize
 
 // The locks of a set, listed.
 fn put_listed(out: &mut [u8], at: usize, s: u64) -> usize
-    ensures place { λ r. ⌜ r ≡ behind (length (now (out .entry))) at (listed 64 0 s) ⌝ }
-    ensures contents { λ r. ⌜ now (out .exit) ≡ written (now (out .entry)) at (listed 64 0 s) ⌝ }
+    ensures place { λ r. ⌜ r ≡ behind (length (now (out .entry))) at (listed lockCount 0 s) ⌝ }
+    ensures contents { λ r. ⌜ now (out .exit) ≡ written (now (out .entry)) at (listed lockCount 0 s) ⌝ }
 {
     let mut p = at;
     let mut v = s;
     let mut n = 0;
-    while n < 64 {
+    while n < LOCK_END {
         p = put_lock(out, p, n, v);
         v = v / 2;
         n += 1;
@@ -94,7 +98,7 @@ pub fn put_locks(out: &mut [u8], at: usize, s: u64) -> usize
     if s == 0 {
         return put_text(out, at, b"none");
     }
-    if s == ALL {
+    if s == ALL_LOCKS {
         return put_text(out, at, b"all 64");
     }
     put_listed(out, at, s)

@@ -9,16 +9,14 @@ use Rattle.frame.specs.Frame.{decodeWord}
 use Rattle.frame.specs.declared.Frame.{Frame}
 use Rattle.frame.specs.declared.Refusal.{Refusal}
 use Rattle.frame.specs.declared.Decoded.the-variants as decoded
-use Rattle.reply.specs.Reply.{refused, reducible}
+use Rattle.reply.specs.Reply.{refused, reducible, violated}
 use Rattle.reply.specs.declared.Reply.{Reply}
-use Rattle.reply.specs.declared.Reply.the-variants as reply
-use Rattle.reply.specs.declared.Verdict.{Verdict}
-use Rattle.reply.specs.declared.Verdict.the-variants as verdict
 use Rattle.reply.specs.declared.Violation.{Violation}
-use Rattle.soundness.specs.Soundness.{State, stepped, stepFrame}
-use Rattle.soundness.specs.declared.Outcome.the-variants as outcome
-use Rattle.instrumented.specs.Rules.{Judging, judged}
-use Rattle.pass.specs.Pass.{judgeFrame, judgeFrom}
+use Rattle.soundness.specs.Soundness.{State}
+use Rattle.instrumented.specs.Rules.{Judging}
+use Rattle.turn.specs.Turn.{turned, turnedTo}
+use Rattle.turn.specs.declared.Turn.the-variants as turn
+use Rattle.pass.specs.Pass.{judgeFrom}
 
 -- The pass from place i on replies r.
 pub record On (guards ws : List ℕ) (i : ℕ) (s : State) (j : Judging) (r : Reply) : Type 0 where
@@ -34,16 +32,15 @@ module _ {guards ws : List ℕ} {i : ℕ} {s : State} {j : Judging} {r : Reply} 
     unfolding judgeFrom
     on-bad e = on .replies ∙ rw (drop-cons ws i 0 h, e)
 
-    module _ {f : Frame} {n : State} (e : decodeWord (getD ws i 0) ≡ decoded.Frame f) where
-      pub on-fail : {b : Refusal} → stepFrame f s ≡ stepped (outcome.Bad b) n → r ≡ refused b i
+    module _ {f : Frame} (e : decodeWord (getD ws i 0) ≡ decoded.Frame f) {n : State} {k : Judging} where
+      pub on-refused : {b : Refusal} → turned guards i f s j ≡ turnedTo (turn.Refused b) n k → r ≡ refused b i
       unfolding judgeFrom
-      on-fail g = on .replies ∙ rw (drop-cons ws i 0 h, e, g)
+      on-refused t = on .replies ∙ rw (drop-cons ws i 0 h, e, t)
 
-      module _ (g : stepFrame f s ≡ stepped outcome.Next n) {v : Verdict} {k : Judging} (a : judgeFrame guards i f s j ≡ judged v k) where
-        pub on-wrong : {x : Violation} → v ≡ verdict.Violated x → r ≡ reply.Judged v
-        unfolding judgeFrom
-        on-wrong q = on .replies ∙ rw (drop-cons ws i 0 h, e, g, a, q)
+      pub on-wrong : {v : Violation} → turned guards i f s j ≡ turnedTo (turn.Wrong v) n k → r ≡ violated v
+      unfolding judgeFrom
+      on-wrong t = on .replies ∙ rw (drop-cons ws i 0 h, e, t)
 
-        pub on-next : v ≡ verdict.Reducible → On guards ws (i + 1) n k r
-        unfolding judgeFrom
-        on-next q = record { replies = on .replies ∙ rw (drop-cons ws i 0 h, e, g, a, q, add-one i) }
+      pub on-next : turned guards i f s j ≡ turnedTo turn.Next n k → On guards ws (i + 1) n k r
+      unfolding judgeFrom
+      on-next t = record { replies = on .replies ∙ rw (drop-cons ws i 0 h, e, t, add-one i) }

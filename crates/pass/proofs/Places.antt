@@ -1,12 +1,14 @@
 -- The places of a judgement's reply are at most 4,096: a violation's frame is one of the recording's, and its begin and commit are no later.
-use Prim.Native.Nat.{ℕ, zero, suc, _+_, _≤_, _<_}
+use Prim.Native.Nat.{ℕ, _+_, _≤_, _<_}
 use mathlib.Core.Path.{_≡_, refl}
 use mathlib.Core.List.{List, [], _∷_}
 use native.Mathlib.Omega.{arith}
 use lib.Dec.{eqb}
 use lib.Bits.{bitAnd}
-use lib.ListN.{length, getD, set}
-use Rattle.frame.proofs.Shared.{either, getD-filled}
+use lib.ListN.{length, getD}
+use Rattle.frame.specs.Limits.{threadCount, mostFrames}
+use Rattle.laws.proofs.Logic.{either}
+use Rattle.laws.proofs.Lists.{getD-filled, set-bounded}
 use Rattle.frame.specs.Frame.{decodeWord}
 use Rattle.frame.specs.declared.Frame.{Frame}
 use Rattle.frame.specs.declared.Thread.{Thread}
@@ -29,7 +31,10 @@ use Rattle.soundness.specs.declared.CheckReply.the-variants as check
 use Rattle.instrumented.specs.Rules.{Phase, outside, before, after, Judging, Judged, beginMark, commitMark, phaseAt, contains, withCommit, committed, acquireIn, unprotectedIn, judgeOperation}
 use Rattle.operation.specs.declared.Operation.{Operation}
 use Rattle.operation.specs.declared.Operation.the-variants.{Acquire, Release, Protected, Unprotected, Inferred, Begin, End}
-use Rattle.pass.specs.Pass.{Ended, judgeFrame, onDecoded, onOutcome, onVerdict, judgeFrom, startJudging, onCheck, judgement}
+use Rattle.turn.specs.Turn.{judgeFrame, Turned, turned, byVerdict, byOutcome}
+use Rattle.turn.specs.declared.Turn.{Turn}
+use Rattle.turn.specs.declared.Turn.the-variants as turn
+use Rattle.pass.specs.Pass.{Ended, onDecoded, onTurn, judgeFrom, startJudging, onCheck, judgement}
 
 -- A mark that is absent or at most m.
 abbrev pub MarkUpTo : ℕ → Mark → Type 0
@@ -46,6 +51,11 @@ abbrev pub VerdictBelow : ℕ → Verdict → Type 0
 VerdictBelow m verdict.Reducible = Unit {0}
 VerdictBelow m (verdict.Violated v) = Below m v
 
+abbrev TurnBelow : ℕ → Turn → Type 0
+TurnBelow m turn.Next = Unit {0}
+TurnBelow m (turn.Refused r) = Unit {0}
+TurnBelow m (turn.Wrong v) = Below m v
+
 -- So are those of a reply; a refusal may be at m.
 abbrev pub ReplyBelow : ℕ → Reply → Type 0
 ReplyBelow m (reply.Refused r) = r .place ≤ m
@@ -55,14 +65,6 @@ ReplyBelow m (reply.Judged v) = VerdictBelow m v
 record Since (i : ℕ) (j : Judging) : Type 0 where
   begins : (t : ℕ) → getD (j .begins) t 0 ≤ i
   commits : (t : ℕ) → getD (j .commits) t 0 ≤ i
-
--- an entry stored
-stored : (l : List ℕ) (t x u m : ℕ) → x ≤ m → getD l u 0 ≤ m → getD (set l t x) u 0 ≤ m
-stored [] t x u m h a = a
-stored (y ∷ l) zero x zero m h a = h
-stored (y ∷ l) zero x (suc u) m h a = a
-stored (y ∷ l) (suc t) x zero m h a = a
-stored (y ∷ l) (suc t) x (suc u) m h a = stored l t x u m h a
 
 -- The marks of a phase are at most m.
 record Marks (m : ℕ) (p : Phase) : Type 0 where
@@ -89,7 +91,7 @@ module _ {i : ℕ} {j : Judging} (s : Since i j) where
   commits-at t d = record {
     begins = later .begins;
     commits = λ u.
-        stored (j .commits) (t .0) (committed d (getD (j .commits) (t .0) 0) i) u (i + 1)
+        set-bounded (j .commits) (t .0) (committed d (getD (j .commits) (t .0) 0) i) u (i + 1)
         (either (λ c. c ≤ i + 1) (eqb d 0) (later .commits (t .0)) (either (λ c. c ≤ i + 1) (eqb (getD (j .commits) (t .0) 0) 0) (omega arith) (later .commits (t .0))))
         (later .commits u);
   }
@@ -123,51 +125,61 @@ module _ {i : ℕ} {j : Judging} (s : Since i j) where
       (record {
         wrong = tt;
         next = record {
-          begins = λ u. stored (j .begins) (t .0) i u (i + 1) (omega arith) (later .begins u);
-          commits = λ u. stored (j .commits) (t .0) 0 u (i + 1) (omega arith) (later .commits u);
+          begins = λ u. set-bounded (j .begins) (t .0) i u (i + 1) (omega arith) (later .begins u);
+          commits = λ u. set-bounded (j .commits) (t .0) 0 u (i + 1) (omega arith) (later .commits u);
         };
       })
       (record { wrong = tt; next = later })
   operation-here t d h End = record { wrong = tt; next = later }
 
--- from a smaller bound
-below-more : (v : Verdict) (i m : ℕ) → i ≤ m → VerdictBelow i v → VerdictBelow m v
-below-more verdict.Reducible i m h b = tt
-below-more (verdict.Violated v) i m h b = record { frame = omega (arith, b .frame); begin = b .begin; commit = b .commit }
+-- What a turn at place i leads to: the same.
+record Led (i : ℕ) (x : Turned) : Type 0 where
+  wrong : TurnBelow (i + 1) (x .turn)
+  next : Since (i + 1) (x .judging)
 
-module _ (m i : ℕ) (c : List ℕ) (h : i ≤ m) where
-  decoding : (d : Decoded) (rest : Frame → Ended) → ((f : Frame) → ReplyBelow m (rest f .reply)) → ReplyBelow m (onDecoded d i c rest .reply)
+turn-led : (guards : List ℕ) (i : ℕ) (f : Frame) (s : State) (j : Judging) → Since i j → Led i (turned guards i f s j)
+turn-led guards i f s j b = stepping (stepFrame f s .outcome) (judging (judgeFrame guards i f s j) (operation-here b (f .thread) _ _ _))
+  where
+    judging : (x : Judged) → Here i x → Led i (byVerdict (x .verdict) (stepFrame f s .state) (x .judging))
+    judging x h = go (x .verdict) (h .wrong)
+      where
+        go : (v : Verdict) → VerdictBelow (i + 1) v → Led i (byVerdict v (stepFrame f s .state) (x .judging))
+        go verdict.Reducible w = record { wrong = tt; next = h .next }
+        go (verdict.Violated v) w = record { wrong = w; next = h .next }
+
+    stepping : (o : Outcome) {x : Turned} → Led i x → Led i (byOutcome o (stepFrame f s .state) j x)
+    stepping outcome.Next l = l
+    stepping (outcome.Bad r) l = record { wrong = tt; next = later b }
+
+module _ (m i : ℕ) (s : State) (j : Judging) (h : i < m) where
+  decoding : (d : Decoded) (rest : Frame → Ended) → ((f : Frame) → ReplyBelow m (rest f .reply)) → ReplyBelow m (onDecoded d i s j rest .reply)
   decoding (decoded.Frame f) rest g = g f
-  decoding (decoded.Bad r) rest g = h
+  decoding (decoded.Bad r) rest g = omega arith
 
-  stepping : (o : Outcome) (e : Ended) → ReplyBelow m (e .reply) → ReplyBelow m (onOutcome o i c e .reply)
-  stepping outcome.Next e g = g
-  stepping (outcome.Bad r) e g = h
-
-  onward : (v : Verdict) (e : Ended) → VerdictBelow m v → ReplyBelow m (e .reply) → ReplyBelow m (onVerdict v c e .reply)
-  onward verdict.Reducible e b g = g
-  onward (verdict.Violated w) e b g = b
+  onward : (t : Turn) (e : Ended) → TurnBelow (i + 1) t → ReplyBelow m (e .reply) → ReplyBelow m (onTurn t i s j e .reply)
+  onward turn.Next e b g = g
+  onward (turn.Refused r) e b g = omega arith
+  onward (turn.Wrong v) e b g = record { frame = omega (arith, b .frame); begin = b .begin; commit = b .commit }
 
 judge-places : (guards : List ℕ) (i : ℕ) (s : State) (j : Judging) (ws : List ℕ) (m : ℕ) → i + length ws ≤ m → Since i j
     → ReplyBelow m (judgeFrom guards i s j ws .reply)
 unfolding judgeFrom
 judge-places guards i s j [] m h b = tt
 judge-places guards i s j (w ∷ ws) m h b =
-    decoding m i (j .sets) (omega arith) (decodeWord w) _ λ f.
-    let x = operation-here b (f .thread) _ _ _ in
-    stepping m i (j .sets) (omega arith) (stepFrame f s .outcome) _
-    (onward m i (j .sets) (omega arith) (judgeFrame guards i f s j .verdict) _ (below-more (judgeFrame guards i f s j .verdict) (i + 1) m (omega arith) (x .wrong))
-    (judge-places guards (i + 1) (stepFrame f s .state) (judgeFrame guards i f s j .judging) ws m (omega arith) (x .next)))
+    decoding m i s j (omega arith) (decodeWord w) _ λ f.
+    let x = turn-led guards i f s j b in
+    onward m i s j (omega arith) (turned guards i f s j .turn) _ (x .wrong)
+    (judge-places guards (i + 1) (turned guards i f s j .state) (turned guards i f s j .judging) ws m (omega arith) (x .next))
 
 start-since : (sets : List ℕ) → Since 0 (startJudging sets)
 unfolding startJudging
-start-since sets = record { begins = λ t. omega (arith, getD-filled 32 t 0); commits = λ t. omega (arith, getD-filled 32 t 0) }
+start-since sets = record { begins = λ t. omega (arith, getD-filled threadCount t 0); commits = λ t. omega (arith, getD-filled threadCount t 0) }
 
 -- the places of a judgement are at most 4,096
-pub judgement-places : (guards sets ws : List ℕ) → ReplyBelow 4096 (judgement guards sets ws .reply)
+pub judgement-places : (guards sets ws : List ℕ) → ReplyBelow mostFrames (judgement guards sets ws .reply)
 unfolding judgement
 judgement-places guards sets ws = go (checkReply ws) refl
   where
-    go : (q : CheckReply) → checkReply ws ≡ q → ReplyBelow 4096 (onCheck q sets (judgeFrom guards 0 start (startJudging sets) ws) .reply)
-    go check.Sound e = judge-places guards 0 start (startJudging sets) ws 4096 (omega (arith, sound-fits ws e)) (start-since sets)
+    go : (q : CheckReply) → checkReply ws ≡ q → ReplyBelow mostFrames (onCheck q (startJudging sets) (judgeFrom guards 0 start (startJudging sets) ws) .reply)
+    go check.Sound e = judge-places guards 0 start (startJudging sets) ws mostFrames (omega (arith, sound-fits ws e)) (start-since sets)
     go (check.Refused r) e = check-place ws r e

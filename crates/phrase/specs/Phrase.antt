@@ -16,7 +16,7 @@ sourceText source.GuardList = bytes "the guard list"
 sourceText source.Left = bytes "the left recording"
 sourceText source.Right = bytes "the right recording"
 
--- "lines counted from 1 for people, places from 0 in brackets"
+-- "line LINE [PLACE]": "PLACE is a place counted from 0, LINE that place plus 1; both are decimal" (docs/TOOL.md)
 unfoldable pub lineText : ℕ → List ℕ
 lineText p = bytes "line " ++ (decimal (p + 1) ++ (bytes " [" ++ (decimal p ++ bytes "]")))
 

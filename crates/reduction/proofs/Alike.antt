@@ -1,5 +1,5 @@
--- Which lock guards an access changes no key: guardings under which every action does the same to locks, depths and commits give the same
--- keys, the same serial order and the same walk. In this order: operations that do the same, runs, keys, the order and the walk.
+-- Which lock guards an access changes no key: guardings under which every action does the same to locks and commits give the same keys and
+-- the same serial order. In this order: operations that do the same, runs, keys, the order.
 use Prim.Native.Nat.{ℕ, suc}
 use mathlib.Core.Path.{_≡_, refl}
 use mathlib.Core.List.{List, [], _∷_}
@@ -10,31 +10,23 @@ use Rattle.frame.specs.declared.Frame.{Frame}
 use Rattle.operation.specs.Operation.{operationOf}
 use Rattle.operation.specs.declared.Operation.{Operation}
 use Rattle.operation.specs.declared.Operation.the-variants.{Protected, Inferred}
-use Rattle.reduction.proofs.Run.{threadOf, Run, begin, put, owners, deeper, mark, onto, commitPlace, keyOf, keyed}
+use Rattle.reduction.proofs.Run.{threadOf, Run, begin, owners, committing, onto, commitPlace, keyOf, keyed}
 use Rattle.reduction.proofs.Serial.{serialOrder}
 
--- Two operations that do the same to locks, depths and commits.
+-- Two operations that do the same to locks and commits.
 pub record Alike (k k′ : Operation) : Type 0 where
   pub owner : (o : ℕ → ℕ) (t : ℕ) → owners o t k ≡ owners o t k′
-  pub depth : (d : ℕ) → deeper d k ≡ deeper d k′
-  pub commit : (d c n : ℕ) → mark d c n k ≡ mark d c n k′
+  pub commit : committing k ≡ committing k′
 
 pub alike-same : (k : Operation) → Alike k k
-alike-same k = record { owner = λ o t. refl; depth = λ d. refl; commit = λ d c n. refl }
+alike-same k = record { owner = λ o t. refl; commit = refl }
 
 pub alike-inferred : (v : Variable) (m : Lock) → Alike (Inferred v) (Protected m)
-alike-inferred v m = record { owner = λ o t. refl; depth = λ d. refl; commit = λ d c n. refl }
-
-run-equal : {o o′ : ℕ → ℕ} {d d′ : ℕ} {c c′ : ℕ} (s : Run) (t : ℕ) → o ≡ o′ → d ≡ d′ → c ≡ c′
-    → _≡_ {A = Run} (record { owner = o; depth = put (s .depth) t d; committed = put (s .committed) t c })
-    (record { owner = o′; depth = put (s .depth) t d′; committed = put (s .committed) t c′ })
-run-equal s t p q r = rw (p, q, r)
+alike-inferred v m = record { owner = λ o t. refl; commit = refl }
 
 module _ (guards guards′ : List ℕ) (alike : (a : Action) → Alike (operationOf guards a) (operationOf guards′ a)) where
   pub onto-alike : (s : Run) (n : ℕ) (f : Frame) → onto guards s n f ≡ onto guards′ s n f
-  onto-alike s n f =
-      run-equal s (threadOf f) (alike (f .action) .owner (s .owner) (threadOf f)) (alike (f .action) .depth (s .depth (threadOf f)))
-      (alike (f .action) .commit (s .depth (threadOf f)) (s .committed (threadOf f)) n)
+  onto-alike s n f = rw (alike (f .action) .owner (s .owner) (threadOf f), alike (f .action) .commit)
 
   commitPlace-alike : (t : ℕ) (s : Run) (n : ℕ) (l : List Frame) → commitPlace guards t s n l ≡ commitPlace guards′ t s n l
   commitPlace-alike t s n [] = refl

@@ -4,12 +4,13 @@
 use Prim.Native.Nat.{ℕ, zero, suc, _≤_, _<_}
 use mathlib.Core.Path.{_≡_, refl, sym, ap, _∙_, subst}
 use mathlib.Core.Logic.{_⊎_, inl, inr}
-use mathlib.Core.Bool.{true, false≢true}
+use mathlib.Core.Bool.{true, false, false≢true, true≢false}
 use mathlib.Core.List.{List, [], _∷_}
 use native.Mathlib.Omega.{arith}
 use lib.Dec.{eqb, leb}
 use lib.ListN.{getD}
 use borrow.Author.Tests.{leb-true, leb-false, eqb-true, eqb-false}
+use Rattle.laws.proofs.Logic.{by-test}
 use Rattle.frame.specs.declared.Lock.{Lock}
 use Rattle.frame.specs.declared.Variable.{Variable}
 use Rattle.frame.specs.declared.Action.{Action}
@@ -22,10 +23,10 @@ use Rattle.operation.specs.Operation.{guardedAccess, operationOf}
 use Rattle.operation.specs.declared.Operation.{Operation}
 use Rattle.operation.specs.declared.Operation.the-variants.{Acquire, Release, Protected, Unprotected, Inferred, Begin, End}
 use Rattle.exchange.specs.Independent.{independent}
-use Rattle.reduction.proofs.Run.{threadOf, Run, Keyed, sound, right, owners, seen, onto, Good, commitPlace, keyOf, keyed}
+use Rattle.reduction.proofs.Run.{threadOf, Run, Keyed, sound, right, owners, committing, seen, onto, Good, commitPlace, keyOf, keyed}
 use Rattle.reduction.proofs.Sort.{All, all-map, all-intro, all-map₂, Ordered, Right}
 use Rattle.reduction.proofs.Dependent.{OfLock, OfVariable, Common, lock, variable, dependent}
-use Rattle.reduction.proofs.Steps.{put-same, put-cases, by-test, Fresh, Past, late-keys, fresh-next, Quiet, Turn, turn, here, on, other, key-before, key-after, past-next}
+use Rattle.reduction.proofs.Steps.{put-same, put-cases, Fresh, Past, late-keys, fresh-next, Turn, turn, here, on, other, key-before, key-after, past-next}
 
 -- What the operation touches the thread u holds.
 abbrev Held : Run → ℕ → Operation → Type 0
@@ -149,14 +150,14 @@ uses-fine s t u m Begin e r q h d = q
 uses-fine s t u m End e r q h d = q
 
 -- A lock stays with its thread but for a release.
-owner-stays : (s : Run) (t u m : ℕ) (k : Operation) → sound s u k ≡ true → s .owner m ≡ suc t → (u ≡ t → Quiet k)
+owner-stays : (s : Run) (t u m : ℕ) (k : Operation) → sound s u k ≡ true → s .owner m ≡ suc t → (u ≡ t → committing k ≡ false)
     → owners (s .owner) u k m ≡ suc t
 owner-stays s t u m (Acquire i) e h c =
     put-cases (λ v. v ≡ suc t) (s .owner) (i .0) (suc u) m (λ q. absurd (omega (arith, eqb-true (s .owner (i .0)) 0 e, ap (s .owner) q)))
     (λ q. h)
 owner-stays s t u m (Release i) e h c =
     put-cases (λ v. v ≡ suc t) (s .owner) (i .0) 0 m
-    (λ q. absurd (c (omega (arith, eqb-true (s .owner (i .0)) (suc u) e, ap (s .owner) q)))) (λ q. h)
+    (λ q. absurd (true≢false (c (omega (arith, eqb-true (s .owner (i .0)) (suc u) e, ap (s .owner) q))))) (λ q. h)
 owner-stays s t u m (Protected i) e h c = h
 owner-stays s t u m Unprotected e h c = h
 owner-stays s t u m (Inferred v) e h c = h
@@ -257,14 +258,14 @@ module _ (guards : List ℕ) where
   -- A frame whose key is after it, against the later ones of other threads.
   late-key : (K : ℕ) (s : Run) (n t : ℕ) (k : Operation) (s′ : Run) (l : List Frame) → right s t k ≡ true
       → owners (s .owner) t k ≡ s′ .owner
-      → Quiet k → Good guards s′ (suc n) l → s′ .committed t ≡ 0 → commitPlace guards t s′ (suc n) l ≡ K
+      → committing k ≡ false → Good guards s′ (suc n) l → s′ .committed t ≡ 0 → commitPlace guards t s′ (suc n) l ≡ K
       → All (λ y. (threadOf (y .frame) ≡ t → ⊥) → Same k (seen guards (y .frame)) → K ≤ y .key) (keyed guards s′ (suc n) l)
   late-key K s n t (Acquire m) s′ l e o b h c p =
       lock-keys t (m .0) K s′ (suc n) l h c (sym (ap (λ (w : ℕ → ℕ). w (m .0)) o) ∙ put-same (s .owner) (m .0) (suc t) (m .0) refl) p
-  late-key K s n t (Release m) s′ l e o b h c p = absurd b
+  late-key K s n t (Release m) s′ l e o b h c p = absurd (true≢false b)
   late-key K s n t (Protected m) s′ l e o b h c p =
       lock-keys t (m .0) K s′ (suc n) l h c (sym (ap (λ (w : ℕ → ℕ). w (m .0)) o) ∙ eqb-true _ _ e) p
-  late-key K s n t Unprotected s′ l e o b h c p = absurd b
+  late-key K s n t Unprotected s′ l e o b h c p = absurd (true≢false b)
   late-key K s n t (Inferred v) s′ l e o b h c p = absurd (false≢true e)
   late-key K s n t Begin s′ l e o b h c p = all-intro (λ y ne q. absurd q) (keyed guards s′ (suc n) l)
   late-key K s n t End s′ l e o b h c p = all-intro (λ y ne q. absurd q) (keyed guards s′ (suc n) l)

@@ -4,10 +4,10 @@ use Prim.Native.Nat.{ℕ, suc, pred}
 use mathlib.Core.Path.{_≡_}
 use mathlib.Core.Bool.{Bool, true, false, cond, not, _&&_, _||_}
 use mathlib.Core.List.{List, [], _∷_}
-use lib.Dec.{eqb, leb, ltb}
-use Rattle.frame.specs.declared.Action.{Action}
-use Rattle.frame.specs.declared.Action.the-variants as action
+use lib.Dec.{eqb, ltb}
+use Rattle.frame.specs.Limits.{deepest}
 use Rattle.frame.specs.declared.Frame.{Frame}
+use Rattle.soundness.specs.Soundness.{nest}
 use Rattle.operation.specs.Operation.{operationOf}
 use Rattle.operation.specs.declared.Operation.{Operation}
 use Rattle.operation.specs.declared.Operation.the-variants.{Acquire, Release, Protected, Unprotected, Inferred, Begin, End}
@@ -36,7 +36,7 @@ sound s t (Release m) = eqb (s .owner (m .0)) (suc t)
 sound s t (Protected m) = true
 sound s t Unprotected = true
 sound s t (Inferred v) = true
-sound s t Begin = ltb (s .depth t) 15
+sound s t Begin = ltb (s .depth t) deepest
 sound s t End = ltb 0 (s .depth t)
 
 -- Figure 8: a step that does not go wrong. Guards are declared here, so no guard is inferred.
@@ -58,41 +58,30 @@ owners o t (Inferred v) = o
 owners o t Begin = o
 owners o t End = o
 
-abbrev pub deeper : ℕ → Operation → ℕ
-deeper d (Acquire m) = d
-deeper d (Release m) = d
-deeper d (Protected m) = d
-deeper d Unprotected = d
-deeper d (Inferred v) = d
-deeper d Begin = suc d
-deeper d End = pred d
+-- An operation that commits the block it stands in.
+abbrev pub committing : Operation → Bool
+committing (Acquire m) = false
+committing (Release m) = true
+committing (Protected m) = false
+committing Unprotected = true
+committing (Inferred v) = false
+committing Begin = false
+committing End = false
 
--- A release or an unprotected access commits the block that it stands in; the outermost end leaves it.
-abbrev pub mark : ℕ → ℕ → ℕ → Operation → ℕ
-mark d c n (Acquire m) = c
-mark d c n (Release m) = cond (eqb d 0) c (cond (eqb c 0) (suc n) c)
-mark d c n (Protected m) = c
-mark d c n Unprotected = cond (eqb d 0) c (cond (eqb c 0) (suc n) c)
-mark d c n (Inferred v) = c
-mark d c n Begin = c
-mark d c n End = cond (leb d 1) 0 c
+-- What an operation at the place n, which leaves its thread at depth d, makes of the thread's commit c: outside there is none, and in a block
+-- the first stays.
+abbrev pub commitAfter : ℕ → ℕ → ℕ → Operation → ℕ
+commitAfter d c n k = cond (eqb d 0) 0 (cond (committing k && eqb c 0) (suc n) c)
 
-abbrev pub afterwards : Run → ℕ → ℕ → Operation → Run
-afterwards s n t k = record {
+-- The run after an operation of thread t that leaves it at depth d.
+abbrev pub afterwards : Run → ℕ → ℕ → ℕ → Operation → Run
+afterwards s n t d k = record {
   owner = owners (s .owner) t k;
-  depth = put (s .depth) t (deeper (s .depth t) k);
-  committed = put (s .committed) t (mark (s .depth t) (s .committed t) n k);
+  depth = put (s .depth) t d;
+  committed = put (s .committed) t (commitAfter d (s .committed t) n k);
 }
 
--- A thread's depth after a list of frames: its begins less its ends.
-abbrev pub nest : ℕ → Action → ℕ
-nest d (action.Acquire m) = d
-nest d (action.Release m) = d
-nest d (action.Read x) = d
-nest d (action.Write x) = d
-nest d action.Begin = suc d
-nest d action.End = pred d
-
+-- A thread's depth d after a list of frames.
 abbrev pub depthAt : ℕ → ℕ → List Frame → ℕ
 depthAt t d [] = d
 depthAt t d (f ∷ l) = depthAt t (cond (eqb (threadOf f) t) (nest d (f .action)) d) l
@@ -116,7 +105,7 @@ module _ (guards : List ℕ) where
   seen f = operationOf guards (f .action)
 
   abbrev pub onto : Run → ℕ → Frame → Run
-  onto s n f = afterwards s n (threadOf f) (seen f)
+  onto s n f = afterwards s n (threadOf f) (nest (s .depth (threadOf f)) (f .action)) (seen f)
 
   -- No frame from here on is refused, and none goes wrong.
   abbrev pub Good : Run → ℕ → List Frame → Type 0

@@ -7,24 +7,17 @@ use mathlib.Core.Logic.{_⊎_, inl, inr, ⊎-elim}
 use mathlib.Core.Bool.{Bool, true, false, cond, not, _&&_, _||_}
 use mathlib.Core.List.{List, [], _∷_, _++_}
 use native.Mathlib.Omega.{arith}
-use lib.Dec.{eqb, leb}
-use lib.ListN.{length, getD}
-use borrow.Author.Tests.{leb-true, eqb-true, eqb-false, eq-eqb, ne-eqb}
-use Rattle.frame.specs.declared.Variable.{Variable}
-use Rattle.frame.specs.declared.Action.{Action}
-use Rattle.frame.specs.declared.Action.the-variants as action
+use lib.Dec.{eqb}
+use lib.ListN.{length}
+use borrow.Author.Tests.{eqb-true, eqb-false, eq-eqb, ne-eqb}
+use Rattle.laws.proofs.Logic.{by-test}
 use Rattle.frame.specs.declared.Frame.{Frame}
-use Rattle.guards.specs.Guards.{guardOf}
-use Rattle.guards.specs.declared.Guard.{Guard}
-use Rattle.guards.specs.declared.Guard.the-variants as guard
-use Rattle.operation.specs.Operation.{guardedAccess, operationOf}
-use Rattle.operation.specs.declared.Operation.{Operation}
-use Rattle.operation.specs.declared.Operation.the-variants.{Acquire, Release, Protected, Unprotected, Inferred, Begin, End}
+use Rattle.soundness.specs.Soundness.{nest}
 use Rattle.exchange.specs.Exchange.{Exchanges}
 use Rattle.exchange.specs.Independent.{independent}
-use Rattle.reduction.proofs.Run.{threadOf, Run, begin, put, deeper, mark, settled, Keyed, seen, onto, Good, commitPlace, keyOf, keyed, nest, depthAt, Closed}
+use Rattle.reduction.proofs.Run.{threadOf, Run, begin, put, settled, Keyed, onto, Good, commitPlace, keyOf, keyed, depthAt, Closed}
 use Rattle.reduction.proofs.Sort.{frames, bucket, buckets, All, sort-exchanges, sort-buckets, Within}
-use Rattle.reduction.proofs.Steps.{by-test, put-own, put-other, put-cases, mark-elim, Past, past-next, Turn, turn, here, on, other, depth-own, committed-own, key-before, key-after}
+use Rattle.reduction.proofs.Steps.{put-own, put-other, commit-elim, commit-keeps, Past, past-next, Turn, turn, here, on, other, depth-own, key-before, key-after}
 use Rattle.reduction.proofs.Order.{ordered}
 
 -- The frames by the place of their commit, lowest first, those of one commit in recorded order.
@@ -41,29 +34,6 @@ depthAt-own t d f l e = ap (λ (b : Bool). depthAt t (cond b (nest d (f .action)
 
 depthAt-other : (t d : ℕ) (f : Frame) (l : List Frame) → (threadOf f ≡ t → ⊥) → depthAt t d (f ∷ l) ≡ depthAt t d l
 depthAt-other t d f l e = ap (λ (b : Bool). depthAt t (cond b (nest d (f .action)) d) l) (ne-eqb _ _ e)
-
-nest-access : (d : ℕ) (g : Guard) (v : Variable) → deeper d (guardedAccess g v) ≡ d
-nest-access d (guard.Locked m) v = refl
-nest-access d guard.Unprotected v = refl
-nest-access d guard.Inferred v = refl
-
-pub nest-deeper : (guards : List ℕ) (d : ℕ) (a : Action) → deeper d (operationOf guards a) ≡ nest d a
-nest-deeper guards d (action.Acquire l) = refl
-nest-deeper guards d (action.Release l) = refl
-nest-deeper guards d (action.Read v) = nest-access d (guardOf (getD guards (v .0) 0)) v
-nest-deeper guards d (action.Write v) = nest-access d (guardOf (getD guards (v .0) 0)) v
-nest-deeper guards d action.Begin = refl
-nest-deeper guards d action.End = refl
-
--- A step keeps a thread's commit, or leaves the thread outside.
-pub mark-keeps : (d c n : ℕ) (k : Operation) → (c ≡ 0 → ⊥) → (mark d c n k ≡ c) ⊎ (deeper d k ≡ 0)
-mark-keeps d c n (Acquire m) h = inl refl
-mark-keeps d c n (Release m) h = by-test (eqb d 0) (λ b. inr (eqb-true _ _ b)) (λ b. inl (rw (b, ne-eqb c 0 h)))
-mark-keeps d c n (Protected m) h = inl refl
-mark-keeps d c n Unprotected h = by-test (eqb d 0) (λ b. inr (eqb-true _ _ b)) (λ b. inl (rw (b, ne-eqb c 0 h)))
-mark-keeps d c n (Inferred v) h = inl refl
-mark-keeps d c n Begin h = inl refl
-mark-keeps d c n End h = by-test (leb d 1) (λ b. inr (let z : pred d ≡ 0 = omega (arith, leb-true) in z)) (λ b. inl (rw b))
 
 -- The frame at the place c, where the list begins at n and has it, is of the thread w.
 abbrev pub At : ℕ → ℕ → ℕ → List Frame → Type 0
@@ -113,7 +83,7 @@ module _ (guards : List ℕ) where
   pub depth-next : (t : ℕ) (s : Run) (n : ℕ) (f : Frame)
       → onto guards s n f .depth t ≡ cond (eqb (threadOf f) t) (nest (s .depth t) (f .action)) (s .depth t)
   depth-next t s n f = by-test (eqb (threadOf f) t)
-      (λ e. rw e (depth-own guards t s n f (eqb-true _ _ e) ∙ nest-deeper guards (s .depth t) (f .action)))
+      (λ e. rw e (depth-own guards t s n f (eqb-true _ _ e)))
       (λ e. rw e (put-other (s .depth) (threadOf f) _ t (λ q. eqb-false _ _ e (sym q))))
 
   pub closed-next : (t : ℕ) (s : Run) (n : ℕ) (f : Frame) (l : List Frame) → depthAt t (s .depth t) (f ∷ l) ≡ 0
@@ -188,18 +158,13 @@ module _ (guards : List ℕ) where
       → (unitKey (onto guards s n f) (suc n) l t ≡ unitKey s n (f ∷ l) t) ⊎ (onto guards s n f .depth t ≡ 0)
   unit-step t s n f l e = by-test (eqb (s .committed t) 0)
       (λ b. go (eqb-true _ _ b) (turn guards t (commitPlace guards t s n (f ∷ l)) s n f l (eqb-true _ _ b) refl))
-      (λ b. kept (eqb-false _ _ b) (mark-keeps (s .depth t) (s .committed t) n (seen guards f) (eqb-false _ _ b)))
+      (λ b. ⊎-elim (λ c. inl (kept (eqb-false _ _ b) c)) inr (commit-keeps guards t s n f e (eqb-false _ _ b)))
     where
       s′ : Run
       s′ = onto guards s n f
 
-      kept : (s .committed t ≡ 0 → ⊥)
-          → (mark (s .depth t) (s .committed t) n (seen guards f) ≡ s .committed t) ⊎ (deeper (s .depth t) (seen guards f) ≡ 0)
-          → (unitKey s′ (suc n) l t ≡ unitKey s n (f ∷ l) t) ⊎ (s′ .depth t ≡ 0)
-      kept b (inl q) =
-          let c : s′ .committed t ≡ s .committed t = committed-own guards t s n f e ∙ q in
-          inl (unit-after s′ (suc n) l t (λ z. b (sym c ∙ z)) ∙ (ap pred c ∙ sym (unit-after s n (f ∷ l) t b)))
-      kept b (inr q) = inr (depth-own guards t s n f e ∙ q)
+      kept : (s .committed t ≡ 0 → ⊥) → s′ .committed t ≡ s .committed t → unitKey s′ (suc n) l t ≡ unitKey s n (f ∷ l) t
+      kept b c = unit-after s′ (suc n) l t (λ z. b (sym c ∙ z)) ∙ (ap pred c ∙ sym (unit-after s n (f ∷ l) t b))
 
       go : s .committed t ≡ 0 → Turn guards t (commitPlace guards t s n (f ∷ l)) s n f l
           → (unitKey s′ (suc n) l t ≡ unitKey s n (f ∷ l) t) ⊎ (s′ .depth t ≡ 0)
@@ -247,7 +212,7 @@ module _ (guards : List ℕ) where
           let e : threadOf f ≡ t = eqb-true _ _ ea in
           let k : unitKey s n (f ∷ l) t ≡ c = sym (own-key e) ∙ eqb-true _ _ eb in
           let w : nest d (f .action) ≡ s′ .depth t =
-          ap (λ (j : ℕ). nest j (f .action)) (p k) ∙ sym (depth-own guards t s n f e ∙ nest-deeper guards (s .depth t) (f .action)) in
+          ap (λ (j : ℕ). nest j (f .action)) (p k) ∙ sym (depth-own guards t s n f e) in
           depthAt-own t d f rest e
           ∙ ih (nest d (f .action)) (λ z. w) (λ z. ⊎-elim (λ y. absurd (z (y ∙ k))) (λ y. w ∙ y) (unit-step t s n f l e))
       go true false ea eb ih =
@@ -278,10 +243,7 @@ module _ (guards : List ℕ) where
         (λ b. place-at w c (threadOf f) s n (f ∷ l) (sym (key-before guards (threadOf f) s n f l refl (eqb-true _ _ b)) ∙ e) h a)
         (λ b. p (threadOf f) (omega (arith, eqb-false, key-after guards s n f l (eqb-false _ _ b)))),
     one-thread w c (onto guards s n f) (suc n) l (omega arith)
-        (λ u. put-cases (λ v. v ≡ suc c → u ≡ w) (s .committed) (threadOf f) _ u
-        (λ e. mark-elim (λ v. v ≡ suc c → u ≡ w) (s .depth (threadOf f)) (s .committed (threadOf f)) n (seen guards f)
-        (λ z. e ∙ p (threadOf f) z) (λ z. e ∙ a .0 (omega arith)) (λ z. absurd (omega arith)))
-        (λ e. p u))
+        (λ u. commit-elim guards (λ v. v ≡ suc c → u ≡ w) s n u f (p u) (λ e z. e ∙ a .0 (omega arith)) (λ z. absurd (omega arith)))
         (a .1),
   )
 

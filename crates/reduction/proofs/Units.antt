@@ -1,21 +1,21 @@
 -- The serial order as a walk of the recording that emits each unit at its commit. In this order: a unit's frames; the frames of a key are
 -- what is left of its unit, and none once the unit is over; the walk; what holds at each place of it; the walk gives the serial order.
-use Prim.Native.Nat.{ℕ, suc, pred, _+_, _≤_, _<_}
+use Prim.Native.Nat.{ℕ, suc, _+_, _≤_, _<_}
 use mathlib.Core.Path.{_≡_, refl, sym, ap, _∙_, subst}
 use mathlib.Core.Logic.{_⊎_, ⊎-elim}
 use mathlib.Core.Bool.{Bool, true, false, cond, not, _&&_, _||_, true≢false}
 use mathlib.Core.List.{List, [], _∷_, _++_}
 use native.Mathlib.Omega.{arith}
-use lib.Dec.{eqb, leb}
+use lib.Dec.{eqb}
 use lib.ListN.{length}
-use borrow.Author.Tests.{leb-false, eqb-true, eqb-false, eq-eqb, ne-eqb}
+use borrow.Author.Tests.{eqb-true, eqb-false, eq-eqb, ne-eqb}
+use Rattle.laws.proofs.Logic.{by-test}
 use Rattle.frame.specs.declared.Frame.{Frame}
-use Rattle.operation.specs.declared.Operation.{Operation}
-use Rattle.operation.specs.declared.Operation.the-variants.{Acquire, Release, Protected, Unprotected, Inferred, Begin, End}
-use Rattle.reduction.proofs.Run.{threadOf, Run, begin, deeper, mark, settled, Keyed, seen, onto, commitPlace, keyOf, keyed, nest, depthAt, Closed}
+use Rattle.soundness.specs.Soundness.{nest}
+use Rattle.reduction.proofs.Run.{threadOf, Run, begin, settled, Keyed, onto, commitPlace, keyOf, keyed, depthAt, Closed}
 use Rattle.reduction.proofs.Sort.{frames, bucket, buckets}
-use Rattle.reduction.proofs.Steps.{by-test, put-other, put-cases, mark-elim, Past, past-next, Turn, turn, here, on, other, depth-own, committed-own, key-before, key-after, commitPlace-le}
-use Rattle.reduction.proofs.Serial.{serialOrder, unitKey, unit-before, unit-after, unit-step, other-step, At, at-some, place-at, one-thread, frames-append, nest-deeper, mark-keeps, key-bound, closed-next}
+use Rattle.reduction.proofs.Steps.{put-other, commit-elim, commit-keeps, commit-tidy, Past, past-next, Turn, turn, here, on, other, depth-own, key-before, key-after, commitPlace-le}
+use Rattle.reduction.proofs.Serial.{serialOrder, unitKey, unit-before, unit-after, unit-step, other-step, At, at-some, place-at, one-thread, frames-append, key-bound, closed-next}
 
 -- The frames of the thread t up to the one that brings its depth back to 0.
 abbrev pub unitFrom : ℕ → ℕ → List Frame → List Frame
@@ -31,31 +31,17 @@ openFrom s o f l u = cond (eqb u (threadOf f) && eqb (s .depth (threadOf f)) 0) 
 abbrev Tidy : Run → Type 0
 Tidy s = (u : ℕ) → s .depth u ≡ 0 → s .committed u ≡ 0
 
-mark-tidy : (d c n : ℕ) (k : Operation) → (d ≡ 0 → c ≡ 0) → deeper d k ≡ 0 → mark d c n k ≡ 0
-mark-tidy d c n (Acquire m) h e = h e
-mark-tidy d c n (Release m) h e = rw (eq-eqb d 0 e) (h e)
-mark-tidy d c n (Protected m) h e = h e
-mark-tidy d c n Unprotected h e = rw (eq-eqb d 0 e) (h e)
-mark-tidy d c n (Inferred v) h e = h e
-mark-tidy d c n Begin h e = absurd (omega arith)
-mark-tidy d c n End h e = by-test (leb d 1) (λ b. rw b) (λ b. absurd (let z : pred d ≡ 0 = e in omega (arith, leb-false)))
-
 module _ (guards : List ℕ) where
   tidy-next : (s : Run) (n : ℕ) (f : Frame) → Tidy s → Tidy (onto guards s n f)
   tidy-next s n f h u e = by-test (eqb (threadOf f) u)
-      (λ b. let q : threadOf f ≡ u = eqb-true _ _ b in
-      committed-own guards u s n f q ∙ mark-tidy (s .depth u) (s .committed u) n (seen guards f) (h u) (sym (depth-own guards u s n f q) ∙ e))
+      (λ b. commit-tidy guards u s n f (eqb-true _ _ b) e)
       (λ b. let ne : u ≡ threadOf f → ⊥ = λ z. eqb-false _ _ b (sym z) in
       put-other (s .committed) (threadOf f) _ u ne ∙ h u (sym (put-other (s .depth) (threadOf f) _ u ne) ∙ e))
 
   -- No later frame has the key of a commit that no thread stands after.
   committed-not : (c : ℕ) (s : Run) (n : ℕ) (f : Frame) → c < n → ((u : ℕ) → s .committed u ≡ suc c → ⊥) → (u : ℕ)
       → onto guards s n f .committed u ≡ suc c → ⊥
-  committed-not c s n f h p u =
-      put-cases (λ v. v ≡ suc c → ⊥) (s .committed) (threadOf f) _ u
-      (λ e. mark-elim (λ v. v ≡ suc c → ⊥) (s .depth (threadOf f)) (s .committed (threadOf f)) n (seen guards f) (p (threadOf f))
-      (λ z. omega arith) (λ z. omega arith))
-      (λ e. p u)
+  committed-not c s n f h p u = commit-elim guards (λ v. v ≡ suc c → ⊥) s n u f (p u) (λ e z. omega arith) (λ z. omega arith)
 
   key-not : (c : ℕ) (s : Run) (n : ℕ) (f : Frame) (l : List Frame) → c < n → (s .committed (threadOf f) ≡ suc c → ⊥)
       → keyOf guards s n f l ≡ c → ⊥
@@ -97,16 +83,10 @@ module _ (guards : List ℕ) where
       rest = bucket c (keyed guards (onto guards s n f) (suc n) l)
 
       only-w : (u : ℕ) → s′ .committed u ≡ suc c → u ≡ w
-      only-w u = put-cases (λ v. v ≡ suc c → u ≡ w) (s .committed) (threadOf f) _ u
-          (λ e. mark-elim (λ v. v ≡ suc c → u ≡ w) (s .depth (threadOf f)) (s .committed (threadOf f)) n (seen guards f)
-          (λ z. e ∙ p (threadOf f) z) (λ z. e ∙ a .0 (omega arith)) (λ z. absurd (omega arith)))
-          (λ e. p u)
+      only-w u = commit-elim guards (λ v. v ≡ suc c → u ≡ w) s n u f (p u) (λ e z. e ∙ a .0 (omega arith)) (λ z. absurd (omega arith))
 
       own : threadOf f ≡ w → keyOf guards s n f l ≡ c
       own e = ap (λ (j : ℕ). unitKey guards s n (f ∷ l) j) e ∙ k
-
-      nested : threadOf f ≡ w → s′ .depth w ≡ nest (s .depth w) (f .action)
-      nested e = depth-own guards w s n f e ∙ nest-deeper guards (s .depth w) (f .action)
 
       -- The unit is over.
       over : threadOf f ≡ w → s′ .depth w ≡ 0 → rest ≡ []
@@ -130,12 +110,12 @@ module _ (guards : List ℕ) where
           ≡ cond v (f ∷ cond b [] (unitFrom w (nest (s .depth w) (f .action)) l)) (unitFrom w (s .depth w) l)
       go true true ev eb ih =
           let e : threadOf f ≡ w = eqb-true _ _ ev in
-          kept e ∙ ap (λ (r : List (Keyed Frame)). f ∷ frames r) (over e (nested e ∙ eqb-true _ _ eb))
+          kept e ∙ ap (λ (r : List (Keyed Frame)). f ∷ frames r) (over e (depth-own guards w s n f e ∙ eqb-true _ _ eb))
       go true false ev eb ih =
           let e : threadOf f ≡ w = eqb-true _ _ ev in
-          kept e ∙ (ap (λ (r : List Frame). f ∷ r) (ih (⊎-elim (λ y. y ∙ k) (λ y. absurd (eqb-false _ _ eb (sym (nested e) ∙ y)))
-          (unit-step guards w s n f l e)))
-          ∙ ap (λ (j : ℕ). f ∷ unitFrom w j l) (nested e))
+          kept e ∙ (ap (λ (r : List Frame). f ∷ r) (ih (⊎-elim (λ y. y ∙ k)
+          (λ y. absurd (eqb-false _ _ eb (sym (depth-own guards w s n f e) ∙ y))) (unit-step guards w s n f l e)))
+          ∙ ap (λ (j : ℕ). f ∷ unitFrom w j l) (depth-own guards w s n f e))
       go false b ev eb ih =
           let ne : threadOf f ≡ w → ⊥ = eqb-false _ _ ev in
           skipped ne ∙ (ih (other-step guards w s n f l ne ∙ k)
@@ -222,10 +202,7 @@ module _ (guards : List ℕ) where
   before-stays : (s : Run) (n : ℕ) (f : Frame) → (onto guards s n f .depth (threadOf f) ≡ 0 → ⊥)
       → onto guards s n f .committed (threadOf f) ≡ 0 → s .committed (threadOf f) ≡ 0
   before-stays s n f h c = by-test (eqb (s .committed (threadOf f)) 0) (λ b. eqb-true _ _ b)
-      (λ b. absurd (⊎-elim
-      (λ y. eqb-false _ _ b (sym (committed-own guards (threadOf f) s n f refl ∙ y) ∙ c))
-      (λ y. h (depth-own guards (threadOf f) s n f refl ∙ y))
-      (mark-keeps (s .depth (threadOf f)) (s .committed (threadOf f)) n (seen guards f) (eqb-false _ _ b))))
+      (λ b. absurd (⊎-elim (λ y. eqb-false _ _ b (sym y ∙ c)) h (commit-keeps guards (threadOf f) s n f refl (eqb-false _ _ b))))
 
   opened-own : (k : List (Keyed Frame)) (s : Run) (o : ℕ → List Frame) (n : ℕ) (f : Frame) (l : List Frame) → Past s n → Tidy s
       → Rest k s n (f ∷ l)
@@ -305,10 +282,10 @@ module _ (guards : List ℕ) where
           cases c (on x y z w v) = omega (arith, v, commitPlace-le guards u s′ (suc n) l)
           cases c (other x y v) = omega (arith, v, commitPlace-le guards u s′ (suc n) l)
 
-      no-mark : (s′ .committed t ≡ suc n → ⊥) → (u : ℕ) → s′ .committed u ≡ suc n → ⊥
-      no-mark a u e = by-test (eqb u t)
-          (λ b. a (ap (s′ .committed) (sym (eqb-true u t b)) ∙ e))
-          (λ b. omega (arith, q u, put-other (s .committed) t (mark (s .depth t) (s .committed t) n (seen guards f)) u (eqb-false u t b), e))
+      no-commit : (s′ .committed t ≡ suc n → ⊥) → (u : ℕ) → s′ .committed u ≡ suc n → ⊥
+      no-commit a u =
+          commit-elim guards (λ v. s′ .committed u ≡ v → v ≡ suc n → ⊥) s n u f (λ x z. omega (arith, q u))
+          (λ e x z. a (ap (s′ .committed) (sym e) ∙ x)) (λ x z. omega arith) refl
 
       go : (v w : Bool) → eqb (s .committed t) 0 ≡ v → settled s′ t ≡ w
           → frames (bucket n k) ≡ cond (v && w) (unitFrom t 0 (cond (eqb (s .depth t) 0) (f ∷ l) (o t))) []
@@ -322,13 +299,13 @@ module _ (guards : List ℕ) where
           let z : (s′ .depth t ≡ 0 → ⊥) × (s′ .committed t ≡ 0) = unsettled s′ t ew in
           gone
           (no-unit (λ u e c y. ⊎-elim (λ x. z .0 (ap (s′ .depth) e ∙ x)) (λ x. omega (arith, ap (s′ .committed) e, z .1)) y))
-          (no-mark (λ x. omega (arith, z .1)))
+          (no-commit (λ x. omega (arith, z .1)))
       go false w ev ew =
           gone (no-unit (λ u e c y. eqb-false _ _ ev (ap (s .committed) e ∙ c)))
-          (no-mark (λ x. ⊎-elim
-          (λ y. omega (arith, q t, committed-own guards t s n f refl, y))
-          (λ y. omega (arith, tidy-next s n f d t (depth-own guards t s n f refl ∙ y)))
-          (mark-keeps (s .depth t) (s .committed t) n (seen guards f) (eqb-false _ _ ev))))
+          (no-commit (λ x. ⊎-elim
+          (λ y. omega (arith, q t, y))
+          (λ y. omega (arith, commit-tidy guards t s n f refl y))
+          (commit-keeps guards t s n f refl (eqb-false _ _ ev))))
 
   walk-buckets : (k : List (Keyed Frame)) (s : Run) (o : ℕ → List Frame) (n : ℕ) (l : List Frame) → Past s n → Tidy s → Rest k s n l
       → ((t : ℕ) → depthAt t (s .depth t) l ≡ 0) → Opened k s o n l → walk s o n l ≡ frames (buckets (length l) n k)

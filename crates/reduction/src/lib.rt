@@ -1,0 +1,1 @@
+// Lipton's reduction on recordings: theorems, and no code.

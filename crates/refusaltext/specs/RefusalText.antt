@@ -1,4 +1,4 @@
--- Refusals in words. What the marks of a sentence stand for is said by `piece` (crate sentence).
+-- Refusals in words. What the slots of a sentence stand for is said by `piece` (crate sentence).
 use Prim.Native.Nat.{ℕ}
 use Prim.Native.String.{String}
 use mathlib.Core.List.{List}
@@ -14,7 +14,7 @@ use Rattle.facts.specs.Facts.{placeFacts}
 abbrev pub refusalSentence : Refusal → String
 refusalSentence refusal.Line =
     "refused: number 1, @ of % is not eight digits 0-9 A-F and one LF; write it so, without blanks, lower case or CR, and end the last line.\n"
-refusalSentence refusal.TooLong = "refused: number 2, % has more than 4096 lines; cut it down to 4096.\n"
+refusalSentence refusal.TooLong = "refused: number 2, % has more than # lines; cut it down to #.\n"
 refusalSentence refusal.WordBuffer = "refused: number 3, the word buffer has fewer than # words; lend one for each line.\n"
 refusalSentence refusal.Operation = "refused: number 4, @ of % has an operation other than 01 to 06; mend its digits 1 and 2.\n"
 refusalSentence refusal.Thread = "refused: number 5, @ of % has a thread above 1F; mend its digits 3 and 4.\n"
@@ -31,9 +31,9 @@ refusalSentence refusal.Irreducible =
     "refused: number 13, % is not reducible, so there is no serial order; @ goes wrong, and explain says why.\n"
 refusalSentence refusal.OpenBlock = "refused: number 14, the block that begins at @ of % is open at the end; add its end.\n"
 refusalSentence refusal.OutputBuffer = "refused: number 15, the output has fewer than # words; lend one for each frame.\n"
-refusalSentence refusal.SetTable = "refused: number 16, the table of candidate sets has fewer than 1024 entries; lend 1024.\n"
-refusalSentence refusal.LineBuffer = "refused: number 17, the line buffer has fewer than 33 bytes; lend 33.\n"
+refusalSentence refusal.SetTable = "refused: number 16, the table of candidate sets has fewer than # entries; lend #.\n"
+refusalSentence refusal.LineBuffer = "refused: number 17, the line buffer has fewer than # bytes; lend #.\n"
 
--- "each refusal in one plain sentence that says what to mend"
+-- "Each refusal is one sentence that says what to mend." (docs/TOOL.md)
 abbrev pub refusalText : Source → List ℕ → Refused → List ℕ
 refusalText s ws r = filled (placeFacts s ws (r .place)) (bytes (refusalSentence (r .reason)))

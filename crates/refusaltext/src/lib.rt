@@ -18,7 +18,7 @@ fn say_refusal(out: &mut [u8], at: usize, reason: Refusal, f: Facts) -> usize
     let n = frame::refusal_number(reason);
     let sentence = textlines::nth_line(
         b"refused: number 1, @ of % is not eight digits 0-9 A-F and one LF; write it so, without blanks, lower case or CR, and end the last line.\n\
-            refused: number 2, % has more than 4096 lines; cut it down to 4096.\n\
+            refused: number 2, % has more than # lines; cut it down to #.\n\
             refused: number 3, the word buffer has fewer than # words; lend one for each line.\n\
             refused: number 4, @ of % has an operation other than 01 to 06; mend its digits 1 and 2.\n\
             refused: number 5, @ of % has a thread above 1F; mend its digits 3 and 4.\n\
@@ -32,8 +32,8 @@ fn say_refusal(out: &mut [u8], at: usize, reason: Refusal, f: Facts) -> usize
             refused: number 13, % is not reducible, so there is no serial order; @ goes wrong, and explain says why.\n\
             refused: number 14, the block that begins at @ of % is open at the end; add its end.\n\
             refused: number 15, the output has fewer than # words; lend one for each frame.\n\
-            refused: number 16, the table of candidate sets has fewer than 1024 entries; lend 1024.\n\
-            refused: number 17, the line buffer has fewer than 33 bytes; lend 33.\n",
+            refused: number 16, the table of candidate sets has fewer than # entries; lend #.\n\
+            refused: number 17, the line buffer has fewer than # bytes; lend #.\n",
         n - 1,
     );
     say(out, at, sentence, f)

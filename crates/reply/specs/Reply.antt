@@ -1,5 +1,7 @@
 -- The numbers of the kinds of violation, and short names for replies.
+-- Quotes are from docs/FORMAT.md.
 use Prim.Native.Nat.{ℕ}
+use Rattle.frame.specs.Refusal.{refusedAt}
 use Rattle.frame.specs.declared.Refusal.{Refusal}
 use Rattle.reply.specs.declared.Kind.{Kind}
 use Rattle.reply.specs.declared.Kind.the-variants as kind
@@ -8,7 +10,7 @@ use Rattle.reply.specs.declared.Verdict.the-variants as verdict
 use Rattle.reply.specs.declared.Reply.{Reply}
 use Rattle.reply.specs.declared.Reply.the-variants as reply
 
--- "Kinds: 1 guard not held; 2 unprotected access after commit; 3 acquire after commit; 4 candidate set emptied"
+-- "1: guard not held .. 2: unprotected access after commit .. 3: acquire after commit .. 4: candidate set emptied"
 abbrev pub kindNumber : Kind → ℕ
 kindNumber kind.GuardNotHeld = 1
 kindNumber kind.UnprotectedAfterCommit = 2
@@ -17,7 +19,7 @@ kindNumber kind.SetEmptied = 4
 
 -- "A refusal is its number and place."
 abbrev pub refused : Refusal → ℕ → Reply
-refused r p = reply.Refused (record { reason = r; place = p })
+refused r p = reply.Refused (refusedAt r p)
 
 abbrev pub reducible : Reply
 reducible = reply.Judged verdict.Reducible

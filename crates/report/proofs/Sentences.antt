@@ -1,4 +1,4 @@
--- How long a sentence can become when its marks are filled in.
+-- How long a sentence can become when its slots are filled in.
 use Prim.Native.Nat.{ℕ, _+_}
 use Prim.Native.Char.{code}
 use mathlib.Core.Path.{_≡_}

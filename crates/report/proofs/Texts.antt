@@ -6,6 +6,7 @@ use mathlib.Core.List.{List, [], _++_}
 use native.Mathlib.Omega.{arith}
 use lib.Dec.{eqb}
 use lib.ListN.{length, length-append}
+use Rattle.frame.specs.Limits.{lockCount, allLocks}
 use Rattle.output.specs.Output.{bytes, decimalDigits, decimal, lockText, listed, locksText}
 
 -- a text of at most n bytes
@@ -54,4 +55,4 @@ pub locks-within : (s : ℕ) → Within 1408 (locksText s)
 unfolding locksText bytes
 locks-within s =
     either (eqb s 0) (wider (plain "none") (omega arith))
-    (either (eqb s 18446744073709551615) (wider (plain "all 64") (omega arith)) (listed-within 64 0 s))
+    (either (eqb s allLocks) (wider (plain "all 64") (omega arith)) (listed-within lockCount 0 s))

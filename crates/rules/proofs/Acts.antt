@@ -7,7 +7,8 @@ use native.Mathlib.Omega.{arith}
 use borrow.Author.Tests.{eqb-true, eqb-false, eq-eqb, ne-eqb, lt-leb, leb-true, leb-false}
 use lib.Dec.{eqb, leb}
 use lib.ListN.{getD, set}
-use Rattle.frame.proofs.Shared.{never}
+use Rattle.frame.specs.Limits.{deepest}
+use Rattle.laws.proofs.Logic.{never}
 use Rattle.frame.specs.declared.Lock.{Lock}
 use Rattle.frame.specs.declared.Frame.{Frame}
 use Rattle.frame.specs.declared.Action.{Action}
@@ -40,7 +41,7 @@ module _ (s : State) (t : ℕ) where
     passes : {a : Action} {n : State} → Acts s t a n → BelowLimit a (getD (s .depths) t 0) → Stands a (stepped outcome.Next n)
     taken : {m : Lock} → (getD (s .owners) (m .0) 0 ≡ 0 → ⊥) → Stands (action.Acquire m) (stepped (outcome.Bad refusal.LockTaken) s)
     not-held : {m : Lock} → (getD (s .owners) (m .0) 0 ≡ t + 1 → ⊥) → Stands (action.Release m) (stepped (outcome.Bad refusal.LockNotHeld) s)
-    too-deep : 15 ≤ getD (s .depths) t 0 → Stands action.Begin (stepped (outcome.Bad refusal.TooDeep) s)
+    too-deep : deepest ≤ getD (s .depths) t 0 → Stands action.Begin (stepped (outcome.Bad refusal.TooDeep) s)
     none-open : getD (s .depths) t 0 ≡ 0 → Stands action.End (stepped (outcome.Bad refusal.NoOpenBlock) s)
 
   -- each action by its test
@@ -54,10 +55,10 @@ module _ (s : State) (t : ℕ) where
   release-stands m true q = rw q (passes (act-release (eqb-true _ _ q)) tt)
   release-stands m false q = rw q (not-held (eqb-false _ _ q))
 
-  begin-stands : (b : Bool) → leb 15 (getD (s .depths) t 0) ≡ b → Stands action.Begin (stepAction t action.Begin s)
+  begin-stands : (b : Bool) → leb deepest (getD (s .depths) t 0) ≡ b → Stands action.Begin (stepAction t action.Begin s)
   unfolding stepAction
-  begin-stands true q = rw q (too-deep (leb-true 15 (getD (s .depths) t 0) q))
-  begin-stands false q = rw q (passes act-other-begin (omega (arith, leb-false 15 (getD (s .depths) t 0) q)))
+  begin-stands true q = rw q (too-deep (leb-true deepest (getD (s .depths) t 0) q))
+  begin-stands false q = rw q (passes act-other-begin (omega (arith, leb-false deepest (getD (s .depths) t 0) q)))
 
   end-stands : (b : Bool) → eqb (getD (s .depths) t 0) 0 ≡ b → Stands action.End (stepAction t action.End s)
   unfolding stepAction
@@ -70,7 +71,7 @@ module _ (s : State) (t : ℕ) where
   stands (action.Release m) = release-stands m (eqb (getD (s .owners) (m .0) 0) (t + 1)) refl
   stands (action.Read x) = passes act-read tt
   stands (action.Write x) = passes act-write tt
-  stands action.Begin = begin-stands (leb 15 (getD (s .depths) t 0)) refl
+  stands action.Begin = begin-stands (leb deepest (getD (s .depths) t 0)) refl
   stands action.End = end-stands (eqb (getD (s .depths) t 0) 0) refl
 
   -- an acquire of a lock that is held, a release of one that is not and an end with none open have no step
@@ -107,7 +108,7 @@ module _ (s : State) (t : ℕ) where
   not-held-release (too-deep h) e = never (cc)
   not-held-release (none-open h) e = never (cc)
 
-  too-deep-begin : {a : Action} {x : Stepped} → Stands a x → x .outcome ≡ outcome.Bad refusal.TooDeep → (a ≡ action.Begin) × (15 ≤ getD (s .depths) t 0)
+  too-deep-begin : {a : Action} {x : Stepped} → Stands a x → x .outcome ≡ outcome.Bad refusal.TooDeep → (a ≡ action.Begin) × (deepest ≤ getD (s .depths) t 0)
   too-deep-begin (passes y b) e = never (cc)
   too-deep-begin (taken h) e = never (cc)
   too-deep-begin (not-held h) e = never (cc)
@@ -129,7 +130,7 @@ module _ (s : State) (t : ℕ) where
   acts-next act-write b = refl
   acts-next (act-acquire e) b = rw (eq-eqb _ _ e)
   acts-next (act-release e) b = rw (eq-eqb _ _ e)
-  acts-next act-other-begin b = rw (lt-leb 15 (getD (s .depths) t 0) b)
+  acts-next act-other-begin b = rw (lt-leb deepest (getD (s .depths) t 0) b)
   acts-next (act-other-end h) b = rw (ne-eqb (getD (s .depths) t 0) 0 (omega arith))
 
   acquire-taken : {a : Action} {x : Stepped} → Stands a x → (m : Lock) → a ≡ action.Acquire m → ((n : State) → Acts s t a n → ⊥)
@@ -148,8 +149,8 @@ module _ (s : State) (t : ℕ) where
   release-not-held (too-deep h) m e none = never (cc)
   release-not-held (none-open h) m e none = never (cc)
 
-  begin-too-deep : {a : Action} {x : Stepped} → Stands a x → a ≡ action.Begin → 15 ≤ getD (s .depths) t 0 → x .outcome ≡ outcome.Bad refusal.TooDeep
-  begin-too-deep (passes {a = a} y b) e h = let c : getD (s .depths) t 0 < 15 = rw e at b in absurd (omega arith)
+  begin-too-deep : {a : Action} {x : Stepped} → Stands a x → a ≡ action.Begin → deepest ≤ getD (s .depths) t 0 → x .outcome ≡ outcome.Bad refusal.TooDeep
+  begin-too-deep (passes {a = a} y b) e h = let c : getD (s .depths) t 0 < deepest = rw e at b in absurd (omega arith)
   begin-too-deep (taken h) e d = never (cc)
   begin-too-deep (not-held h) e d = never (cc)
   begin-too-deep (too-deep h) e d = refl

@@ -8,6 +8,7 @@ use native.Mathlib.Decide.{ℕ-discrete}
 use borrow.Author.Tests.{eq-eqb, eqb-true}
 use lib.Bits.{bitAnd, and-step, and-shr}
 use lib.Pow.{pow-pos}
+use Rattle.frame.specs.Limits.{lockCount, allLocks}
 use Rattle.frame.specs.declared.Lock.{Lock}
 use Rattle.instrumented.specs.Rules.{contains}
 
@@ -71,8 +72,8 @@ all-in (suc k) (suc m) h =
     bit-suc (2 ^ suc k - 1) m ∙ ap (λ (n : ℕ). bit n m) (omega (arith, pow-succ' 2 k)) ∙ all-in k m (omega arith)
 
 -- every lock is in the full set
-pub full-holds : (l : Lock) → l .0 < 64 → contains 18446744073709551615 l ≡ true
-full-holds l h = eq-eqb _ 1 (all-in 64 (l .0) h)
+pub full-holds : (l : Lock) → l .0 < lockCount → contains allLocks l ≡ true
+full-holds l h = eq-eqb _ 1 (all-in lockCount (l .0) h)
 
 -- a number other than 0 has a bit
 some-bit : (k s : ℕ) → 0 < s → s < 2 ^ k → (m : ℕ) × (m < k) × (bit s m ≡ 1)
@@ -84,5 +85,5 @@ some-bit (suc k) s p h = go (ℕ-discrete (s % 2) 1) (λ q. some-bit k (s / 2) q
     go (no n) ih = let r : (m : ℕ) × (m < k) × (bit (s / 2) m ≡ 1) = ih (omega arith) in (suc (r .0), omega arith, bit-suc s (r .0) ∙ r .2)
 
 -- a set that is not empty has a lock
-pub some-lock : (s : ℕ) → 0 < s → s < 18446744073709551616 → (m : ℕ) × (m < 64) × (contains s (record { 0 = m }) ≡ true)
-some-lock s p h = let r : (m : ℕ) × (m < 64) × (bit s m ≡ 1) = some-bit 64 s p h in (r .0, r .1, eq-eqb _ 1 (r .2))
+pub some-lock : (s : ℕ) → 0 < s → s < 18446744073709551616 → (m : ℕ) × (m < lockCount) × (contains s (record { 0 = m }) ≡ true)
+some-lock s p h = let r : (m : ℕ) × (m < lockCount) × (bit s m ≡ 1) = some-bit lockCount s p h in (r .0, r .1, eq-eqb _ 1 (r .2))

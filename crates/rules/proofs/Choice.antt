@@ -11,7 +11,11 @@ use lib.Bits.{bitAnd, and-le-l}
 use lib.Dec.{eqb, ltb}
 use lib.ListN.{length, getD, set, drop, replicate, length-set, length-replicate, getD-replicate}
 use lib.Seq.{getD-set-same, getD-set-other, getD-drop}
-use Rattle.frame.proofs.Shared.{never}
+use Rattle.verdict.specs.Verdict.{inferredReply}
+use Rattle.turn.specs.Turn.{judgeFrame}
+use Rattle.pass.specs.Pass.{Ended, judgeFrom, startJudging, fullSets, judgement}
+use Rattle.frame.specs.Limits.{lockCount, variableCount, allLocks}
+use Rattle.laws.proofs.Logic.{never}
 use Rattle.frame.specs.Frame.{ObjectInRange, decodeWord}
 use Rattle.frame.proofs.Laws.{decoded-in-range}
 use Rattle.frame.specs.declared.Thread.{Thread}
@@ -22,7 +26,7 @@ use Rattle.frame.specs.declared.Action.{Action}
 use Rattle.frame.specs.declared.Action.the-variants as action
 use Rattle.frame.specs.declared.Decoded.{Decoded}
 use Rattle.frame.specs.declared.Decoded.the-variants as decoded
-use Rattle.guards.specs.Guards.{guardOf}
+use Rattle.guards.specs.Guards.{guardOf, unprotectedCode, inferredCode, inferredGuards}
 use Rattle.guards.specs.declared.Guard.{Guard}
 use Rattle.guards.specs.declared.Guard.the-variants as guard
 use Rattle.reply.specs.Reply.{refused, reducible, violated}
@@ -37,9 +41,7 @@ use Rattle.operation.specs.Operation.{guardedAccess, accessOf, operationOf}
 use Rattle.instrumented.specs.Held.{heldSet}
 use Rattle.operation.specs.declared.Operation.{Operation}
 use Rattle.operation.specs.declared.Operation.the-variants.{Acquire, Release, Protected, Unprotected, Inferred, Begin, End}
-use Rattle.pass.specs.Pass.{Ended, judgeFrame, judgeFrom, startJudging, allLocks, fullSets, judgement}
 use Rattle.pass.proofs.Judgement.{judgement-pass, judgement-sound}
-use Rattle.verdict.specs.Verdict.{inferredGuards, inferredReply}
 use Rattle.verdict.proofs.Laws.{own-table}
 use Rattle.rules.specs.Choice.{Reducible, Choice, choose, InferredIsSomeChoice, InferredVerdictIsSomeChoice}
 use Rattle.rules.proofs.Bits.{and-holds, and-holds-both, not-empty, full-holds, some-lock}
@@ -59,36 +61,36 @@ chosen locks Begin = Begin
 chosen locks End = End
 
 -- a variable's guard is the chosen lock where it is inferred
-choose-at : (guards locks : List ℕ) (x : ℕ) → getD (choose guards locks) x 0 ≡ cond (ltb 64 (getD guards x 0)) (getD locks x 0) (getD guards x 0)
+choose-at : (guards locks : List ℕ) (x : ℕ) → getD (choose guards locks) x 0 ≡ cond (ltb unprotectedCode (getD guards x 0)) (getD locks x 0) (getD guards x 0)
 choose-at [] locks x = refl
 choose-at (c ∷ guards) locks zero = refl
 choose-at (c ∷ guards) locks (suc x) =
     choose-at guards (drop 1 locks) x
-    ∙ ap (λ (n : ℕ). cond (ltb 64 (getD guards x 0)) n (getD guards x 0)) (getD-drop 1 locks x 0 ∙ ap (λ (n : ℕ). getD locks n 0) one-more)
+    ∙ ap (λ (n : ℕ). cond (ltb unprotectedCode (getD guards x 0)) n (getD guards x 0)) (getD-drop 1 locks x 0 ∙ ap (λ (n : ℕ). getD locks n 0) one-more)
   where
     one-more : 1 + x ≡ suc x
     one-more = omega arith
 
 -- where every guard is inferred, the chosen locks are the guards
-choose-all : (n : ℕ) (locks : List ℕ) → length locks ≡ n → choose (replicate n 65) locks ≡ locks
+choose-all : (n : ℕ) (locks : List ℕ) → length locks ≡ n → choose (replicate n inferredCode) locks ≡ locks
 choose-all zero [] e = refl
 choose-all zero (l ∷ locks) e = absurd (omega arith)
 choose-all (suc n) [] e = absurd (omega arith)
 choose-all (suc n) (l ∷ locks) e = ap (λ (r : List ℕ). l ∷ r) (choose-all n locks (omega arith))
 
 -- an access under a guard that is replaced where it is inferred is the access under the chosen lock
-access-chosen : (locks : List ℕ) (v : Variable) (g : ℕ) → getD locks (v .0) 0 < 64
-    → guardedAccess (guardOf (cond (ltb 64 g) (getD locks (v .0) 0) g)) v ≡ chosen locks (guardedAccess (guardOf g) v)
-access-chosen locks v g s = go (ltb 64 g) refl (ltb g 64) refl (eqb g 64) refl
+access-chosen : (locks : List ℕ) (v : Variable) (g : ℕ) → getD locks (v .0) 0 < lockCount
+    → guardedAccess (guardOf (cond (ltb unprotectedCode g) (getD locks (v .0) 0) g)) v ≡ chosen locks (guardedAccess (guardOf g) v)
+access-chosen locks v g s = go (ltb unprotectedCode g) refl (ltb g lockCount) refl (eqb g unprotectedCode) refl
   where
-    go : (p : Bool) → ltb 64 g ≡ p → (q : Bool) → ltb g 64 ≡ q → (r : Bool) → eqb g 64 ≡ r
-        → guardedAccess (guardOf (cond (ltb 64 g) (getD locks (v .0) 0) g)) v ≡ chosen locks (guardedAccess (guardOf g) v)
-    go true e true f r k = absurd (omega (arith, ltb-true 64 g e, ltb-true g 64 f))
-    go true e false f true k = absurd (omega (arith, ltb-true 64 g e, eqb-true g 64 k))
-    go true e false f false k = rw (e, f, k, lt-ltb (getD locks (v .0) 0) 64 s)
+    go : (p : Bool) → ltb unprotectedCode g ≡ p → (q : Bool) → ltb g lockCount ≡ q → (r : Bool) → eqb g unprotectedCode ≡ r
+        → guardedAccess (guardOf (cond (ltb unprotectedCode g) (getD locks (v .0) 0) g)) v ≡ chosen locks (guardedAccess (guardOf g) v)
+    go true e true f r k = absurd (omega (arith, ltb-true unprotectedCode g e, ltb-true g lockCount f))
+    go true e false f true k = absurd (omega (arith, ltb-true unprotectedCode g e, eqb-true g unprotectedCode k))
+    go true e false f false k = rw (e, f, k, lt-ltb (getD locks (v .0) 0) lockCount s)
     go false e true f r k = rw (e, f)
     go false e false f true k = rw (e, f, k)
-    go false e false f false k = absurd (eqb-false g 64 k (omega (arith, ltb-false 64 g e, ltb-false g 64 f)))
+    go false e false f false k = absurd (eqb-false g unprotectedCode k (omega (arith, ltb-false unprotectedCode g e, ltb-false g lockCount f)))
 
 -- an action through the chosen guards is the operation under the chosen lock
 module _ (guards locks : List ℕ) (c : Choice locks) where
@@ -110,10 +112,10 @@ Plain o = (locks : List ℕ) → chosen locks o ≡ o
 
 data Seen : Operation → Type 0 where
   plain : {o : Operation} → Plain o → Seen o
-  inferred : (v : Variable) → v .0 < 1024 → Seen (Inferred v)
+  inferred : (v : Variable) → v .0 < variableCount → Seen (Inferred v)
 
 -- every action of a frame in range is seen so
-seen-access : (g : Guard) (v : Variable) → v .0 < 1024 → Seen (guardedAccess g v)
+seen-access : (g : Guard) (v : Variable) → v .0 < variableCount → Seen (guardedAccess g v)
 seen-access (guard.Locked m) v h = plain (λ locks. refl)
 seen-access guard.Unprotected v h = plain (λ locks. refl)
 seen-access guard.Inferred v h = inferred v h
@@ -166,18 +168,18 @@ plain-resets i t d h End e sets j = refl
 
 -- Every set has its variable's chosen lock.
 record Has (locks sets : List ℕ) : Type 0 where
-  long : length sets ≡ 1024
-  has : (x : ℕ) → x < 1024 → contains (getD sets x 0) (lockOf locks x) ≡ true
+  long : length sets ≡ variableCount
+  has : (x : ℕ) → x < variableCount → contains (getD sets x 0) (lockOf locks x) ≡ true
 
 -- No set is empty, and all are of 64 locks.
 record Full (sets : List ℕ) : Type 0 where
-  long : length sets ≡ 1024
-  some : (x : ℕ) → x < 1024 → 0 < getD sets x 0
-  small : (x : ℕ) → x < 1024 → getD sets x 0 < 18446744073709551616
+  long : length sets ≡ variableCount
+  some : (x : ℕ) → x < variableCount → 0 < getD sets x 0
+  small : (x : ℕ) → x < variableCount → getD sets x 0 < 18446744073709551616
 
 -- what a variable's set becomes at an access, and the others
-at-set : (P : ℕ → ℕ → Type 0) (sets : List ℕ) (v s : ℕ) → length sets ≡ 1024 → P v s → ((x : ℕ) → x < 1024 → P x (getD sets x 0))
-    → (x : ℕ) → x < 1024 → P x (getD (set sets v s) x 0)
+at-set : (P : ℕ → ℕ → Type 0) (sets : List ℕ) (v s : ℕ) → length sets ≡ variableCount → P v s → ((x : ℕ) → x < variableCount → P x (getD sets x 0))
+    → (x : ℕ) → x < variableCount → P x (getD (set sets v s) x 0)
 at-set P sets v s long p q x h = go (ℕ-discrete x v)
   where
     go : Dec (x ≡ v) → P x (getD (set sets v s) x 0)
@@ -262,7 +264,7 @@ module _ (i : ℕ) (t : Thread) (d h : ℕ) where
         kept = rw (plain-kept o k) f;
       }
 
-      inferred-matched : (v : Variable) → v .0 < 1024 → contains h (lockOf locks (v .0)) ≡ true → Has locks (j .sets)
+      inferred-matched : (v : Variable) → v .0 < variableCount → contains h (lockOf locks (v .0)) ≡ true → Has locks (j .sets)
           → Matched locks sets j (judgeOperation i t d h (Inferred v) j) (judgeOperation i t d h (Protected (lockOf locks (v .0))) (withSets sets j))
       inferred-matched v b e f =
           let m : contains (shared v) (lockOf locks (v .0)) ≡ true = shared-holds v _ (f .has (v .0) b) e in
@@ -283,7 +285,7 @@ module _ (i : ℕ) (t : Thread) (d h : ℕ) where
       infers {o} (plain k) e f = plain-matched o k e (rw (plain-kept o k) at f)
       infers (inferred v b) e f =
           let g : Has locks (set (j .sets) (v .0) (shared v)) = rw (shared-right v (right-shared v e)) at f in
-          let long : length (j .sets) ≡ 1024 = sym (length-set (j .sets) (v .0) (shared v)) ∙ g .long in
+          let long : length (j .sets) ≡ variableCount = sym (length-set (j .sets) (v .0) (shared v)) ∙ g .long in
           let m = holds-shared v (lockOf locks (v .0)) (rw (getD-set-same (j .sets) (v .0) (shared v) 0 (omega arith)) at (g .has (v .0) b)) in
           inferred-matched v b (m .1) record {
             long = long;
@@ -291,7 +293,7 @@ module _ (i : ℕ) (t : Thread) (d h : ℕ) where
           }
         where
           go : (contains (getD (j .sets) (v .0) 0) (lockOf locks (v .0)) ≡ true) × (contains h (lockOf locks (v .0)) ≡ true) → Has locks (set (j .sets) (v .0) (shared v))
-              → (x : ℕ) → x < 1024 → Dec (x ≡ v .0) → contains (getD (j .sets) x 0) (lockOf locks x) ≡ true
+              → (x : ℕ) → x < variableCount → Dec (x ≡ v .0) → contains (getD (j .sets) x 0) (lockOf locks x) ≡ true
           go m g x p (yes q) = rw q (m .0)
           go m g x p (no n) = rw (getD-set-other (j .sets) (v .0) x (shared v) 0 n) at (g .has x p)
 
@@ -339,7 +341,7 @@ module _ (guards : List ℕ) (i : ℕ) (s : State) (j : Judging) (w : ℕ) (ws :
 
 -- the sets that a reducible pass leaves are not empty
 ends-full : (guards : List ℕ) (i : ℕ) (s : State) (j : Judging) (ws : List ℕ) → judgeFrom guards i s j ws .reply ≡ reducible → Full (j .sets)
-    → Full (judgeFrom guards i s j ws .sets)
+    → Full (judgeFrom guards i s j ws .judging .sets)
 unfolding judgeFrom
 ends-full guards i s j [] e f = f
 ends-full guards i s j (w ∷ ws) e f =
@@ -382,7 +384,7 @@ module _ (guards locks : List ℕ) (c : Choice locks) (sets : List ℕ) where
           ∙ ap (λ (x : Judged). judgeFrom (choose guards locks) (i + 1) (stepFrame f s .state) (x .judging) ws) (m .same)
 
   -- a pass that leaves each variable's chosen lock in its set is reducible with the chosen locks
-  infers-pass : (i : ℕ) (s : State) (j : Judging) (ws : List ℕ) → judgeFrom guards i s j ws .reply ≡ reducible → Has locks (judgeFrom guards i s j ws .sets)
+  infers-pass : (i : ℕ) (s : State) (j : Judging) (ws : List ℕ) → judgeFrom guards i s j ws .reply ≡ reducible → Has locks (judgeFrom guards i s j ws .judging .sets)
       → Has locks (j .sets) × (judgeFrom (choose guards locks) i s (withSets sets j) ws .reply ≡ reducible)
   unfolding judgeFrom
   infers-pass i s j [] r h = (h, refl)
@@ -390,7 +392,7 @@ module _ (guards locks : List ℕ) (c : Choice locks) (sets : List ℕ) where
       let g = goes guards i s j w ws r in
       let on = goes-on guards i s j w ws g in
       let ih = infers-pass (i + 1) (stepFrame (g .frame) s .state) (judgeFrame guards i (g .frame) s j .judging) ws
-      (sym (same-reply on) ∙ r) (subst (λ (x : Ended). Has locks (x .sets)) on h) in
+      (sym (same-reply on) ∙ r) (subst (λ (x : Ended). Has locks (x .judging .sets)) on h) in
       let m = frame-infers i s j w (g .frame) (g .is) (g .right) (ih .0) in
       (m .had, same-reply (chosen-on i s j w (g .frame) (g .is) ws (g .sound) m) ∙ ih .1)
 
@@ -407,8 +409,8 @@ module _ (guards locks : List ℕ) (c : Choice locks) (sets : List ℕ) where
       ∙ allows-pass (i + 1) (stepFrame (g .frame) s .state) (judgeFrame guards i (g .frame) s j .judging) ws (sym (same-reply on) ∙ r) (m .kept)
 
 -- a lock of each set
-choice : (sets : List ℕ) → ((x : ℕ) → x < length sets → (m : ℕ) × (m < 64) × (contains (getD sets x 0) (record { 0 = m }) ≡ true))
-    → (locks : List ℕ) × (length locks ≡ length sets) × ((x : ℕ) → getD locks x 0 < 64)
+choice : (sets : List ℕ) → ((x : ℕ) → x < length sets → (m : ℕ) × (m < lockCount) × (contains (getD sets x 0) (record { 0 = m }) ≡ true))
+    → (locks : List ℕ) × (length locks ≡ length sets) × ((x : ℕ) → getD locks x 0 < lockCount)
     × ((x : ℕ) → x < length sets → contains (getD sets x 0) (lockOf locks x) ≡ true)
 choice [] f = ([], refl, λ x. omega arith, λ x h. absurd (omega arith))
 choice (s ∷ sets) f =
@@ -416,7 +418,7 @@ choice (s ∷ sets) f =
     let m = f 0 (omega arith) in
     (m .0 ∷ r .0, ap suc (r .1), below (m .0) (r .0) (m .1) (r .2), within (m .0) (r .0) (m .2) (r .3))
   where
-    below : (m : ℕ) (locks : List ℕ) → m < 64 → ((x : ℕ) → getD locks x 0 < 64) → (x : ℕ) → getD (m ∷ locks) x 0 < 64
+    below : (m : ℕ) (locks : List ℕ) → m < lockCount → ((x : ℕ) → getD locks x 0 < lockCount) → (x : ℕ) → getD (m ∷ locks) x 0 < lockCount
     below m locks p q zero = p
     below m locks p q (suc x) = q x
 
@@ -429,19 +431,20 @@ choice (s ∷ sets) f =
 full-start : Full fullSets
 unfolding fullSets
 full-start = record {
-  long = length-replicate 1024 allLocks;
-  some = λ x h. rw (getD-replicate 1024 x allLocks 0 h) (omega arith);
-  small = λ x h. rw (getD-replicate 1024 x allLocks 0 h) (omega arith);
+  long = length-replicate variableCount allLocks;
+  some = λ x h. rw (getD-replicate variableCount x allLocks 0 h) (omega arith);
+  small = λ x h. rw (getD-replicate variableCount x allLocks 0 h) (omega arith);
 }
 
 has-start : (locks : List ℕ) → Choice locks → Has locks fullSets
 unfolding fullSets
 has-start locks c = record {
-  long = length-replicate 1024 allLocks;
-  has = λ x h. rw (getD-replicate 1024 x allLocks 0 h) (full-holds (lockOf locks x) (c .small x));
+  long = length-replicate variableCount allLocks;
+  has = λ x h. rw (getD-replicate variableCount x allLocks 0 h) (full-holds (lockOf locks x) (c .small x));
 }
 
--- "inferred finds a recording reducible exactly if some choice of one lock for each accessed variable does"
+-- "With inferred guards a recording is reducible exactly if it is so with some choice of one lock for each accessed variable as its declared
+-- guard."
 pub inferred-is-some-choice : InferredIsSomeChoice
 unfolding startJudging
 inferred-is-some-choice guards ws = (to, from)
@@ -450,9 +453,9 @@ inferred-is-some-choice guards ws = (to, from)
     to r =
         let sound = judgement-sound guards fullSets ws verdict.Reducible r in
         let run : judgeFrom guards 0 start (startJudging fullSets) ws .reply ≡ reducible = sym (same-reply (judgement-pass guards fullSets ws sound)) ∙ r in
-        let left = judgeFrom guards 0 start (startJudging fullSets) ws .sets in
+        let left = judgeFrom guards 0 start (startJudging fullSets) ws .judging .sets in
         let full : Full left = ends-full guards 0 start (startJudging fullSets) ws run full-start in
-        let size : length left ≡ 1024 = full .long in
+        let size : length left ≡ variableCount = full .long in
         let k = choice left (λ x h. some-lock (getD left x 0) (full .some x (omega arith)) (full .small x (omega arith))) in
         let c : Choice (k .0) = record { long = k .1 ∙ size; small = k .2 } in
         let has : Has (k .0) left = record { long = size; has = λ x h. k .3 x (omega arith) } in (
@@ -471,12 +474,12 @@ inferred-is-some-choice guards ws = (to, from)
         ∙ allows-pass guards locks c fullSets 0 start (startJudging fullSets) ws run (has-start locks c)
 
 -- with a choice the guards of the inferred verdict are the chosen locks
-inferred-choose : (locks : List ℕ) → length locks ≡ 1024 → choose inferredGuards locks ≡ locks
+inferred-choose : (locks : List ℕ) → length locks ≡ variableCount → choose inferredGuards locks ≡ locks
 unfolding inferredGuards
-inferred-choose locks e = choose-all 1024 locks e
+inferred-choose locks e = choose-all variableCount locks e
 
 -- the inferred verdict is the judgement with all guards inferred
-inferred-reply : (ws : List ℕ) → inferredReply ws 1024 ≡ judgement inferredGuards fullSets ws .reply
+inferred-reply : (ws : List ℕ) → inferredReply ws variableCount ≡ judgement inferredGuards fullSets ws .reply
 unfolding inferredReply
 inferred-reply ws = sym (own-table (judgement inferredGuards fullSets ws .reply))
 
@@ -484,12 +487,12 @@ inferred-reply ws = sym (own-table (judgement inferredGuards fullSets ws .reply)
 pub inferred-verdict-is-some-choice : InferredVerdictIsSomeChoice
 inferred-verdict-is-some-choice ws = (to, from)
   where
-    to : inferredReply ws 1024 ≡ reducible → (locks : List ℕ) × Choice locks × Reducible locks ws
+    to : inferredReply ws variableCount ≡ reducible → (locks : List ℕ) × Choice locks × Reducible locks ws
     to r =
         let k = inferred-is-some-choice inferredGuards ws .0 (sym (inferred-reply ws) ∙ r) in
         (k .0, k .1, subst (λ (g : List ℕ). Reducible g ws) (inferred-choose (k .0) (k .1 .long)) (k .2))
 
-    from : (locks : List ℕ) × Choice locks × Reducible locks ws → inferredReply ws 1024 ≡ reducible
+    from : (locks : List ℕ) × Choice locks × Reducible locks ws → inferredReply ws variableCount ≡ reducible
     from (locks, c, r) =
         inferred-reply ws
         ∙ inferred-is-some-choice inferredGuards ws .1

@@ -11,6 +11,11 @@ use native.Mathlib.Nat.{zero-add}
 use borrow.Author.Tests.{eq-eqb, ne-eqb, le-ltb}
 use lib.Dec.{eqb}
 use lib.ListN.{getD, length-replicate, getD-replicate}
+use Rattle.guards.specs.declared.Judgement.the-variants.{Declared}
+use Rattle.verdict.specs.Verdict.{verdictUnder, withTable, inferredReply}
+use Rattle.turn.specs.Turn.{judgeFrame}
+use Rattle.pass.specs.Pass.{Ended, fullSets, judgeFrom, startJudging, judgement}
+use Rattle.frame.specs.Limits.{threadCount, variableCount, allLocks}
 use Rattle.frame.specs.Frame.{ObjectInRange, decodeWord}
 use Rattle.frame.proofs.Laws.{decoded-in-range}
 use Rattle.frame.specs.declared.Variable.{Variable}
@@ -19,7 +24,7 @@ use Rattle.frame.specs.declared.Action.the-variants as action
 use Rattle.frame.specs.declared.Frame.{Frame}
 use Rattle.frame.specs.declared.Decoded.{Decoded}
 use Rattle.frame.specs.declared.Decoded.the-variants as decoded
-use Rattle.guards.specs.Guards.{guardOf, guardsRead, listedGuard}
+use Rattle.guards.specs.Guards.{guardOf, guardsRead, listedGuard, inferredCode, inferredGuards}
 use Rattle.guards.proofs.Named.{listed-guard}
 use Rattle.guards.specs.declared.Guard.{Guard}
 use Rattle.guards.specs.declared.Guard.the-variants.{Locked, Unprotected, Inferred}
@@ -34,10 +39,9 @@ use Rattle.reply.specs.declared.Reply.{Reply}
 use Rattle.reply.specs.declared.Reply.the-variants as reply
 use Rattle.reply.specs.declared.Violation.{Violation}
 use Rattle.instrumented.specs.Rules.{Judging}
-use Rattle.pass.specs.Pass.{Ended, allLocks, fullSets, judgeFrame, judgeFrom, startJudging, judgement}
-use Rattle.verdict.specs.Verdict.{declaredReply, inferredGuards, withTable, inferredReply}
 use Rattle.rules.specs.Figures.{Acts, Stage, Outside, PreCommit, PostCommit, Store, putStage, putLocks, owner, depth, shared, Accesses, reads, writes, Steps, ins-access-protected, ins-race-commit, ins-race-outside, ins-acquire, ins-release-commit, ins-release-outside, ins-enter, ins-nested-enter, ins-exit, ins-nested-exit, ins2-access, Wrong, wrong-access-protected, wrong-race-violate, wrong-acquire, wrong2-race, AllStep, end, step, WrongAt, here, later, startStore, guarding, OfTheRules, VerdictIsOfTheRules, DeclaredIsOfTheRules, InferredIsOfTheRules}
-use Rattle.frame.proofs.Shared.{never, getD-filled}
+use Rattle.laws.proofs.Logic.{never}
+use Rattle.laws.proofs.Lists.{getD-filled}
 use Rattle.pass.proofs.Judgement.{judgement-pass}
 use Rattle.rules.proofs.Acts.{acted, acts-to, passes-acts}
 use Rattle.rules.proofs.Store.{storeOf, Sized, Told, goes, wrong, frame-told}
@@ -185,11 +189,11 @@ ends guards i s j (w ∷ ws) c z =
 -- the lists, the sizes and the store at the start
 start-sized : Sized (start .depths) (startJudging fullSets)
 unfolding start startJudging fullSets
-start-sized = record { depths-long = refl; commits-long = refl; sets-long = length-replicate 1024 allLocks }
+start-sized = record { depths-long = refl; commits-long = refl; sets-long = length-replicate variableCount allLocks }
 
 start-store : storeOf (start .depths) (startJudging fullSets) ≡ startStore
 unfolding start startJudging
-start-store = ap (λ (g : ℕ → Stage). record { stage = g; locks = λ x. getD fullSets x 0 }) (fun-ext λ u. rw (getD-filled 32 u 0))
+start-store = ap (λ (g : ℕ → Stage). record { stage = g; locks = λ x. getD fullSets x 0 }) (fun-ext λ u. rw (getD-filled threadCount u 0))
 
 -- a sound recording ends so from the start
 start-ends : (guards ws : List ℕ) → checkReply ws ≡ check.Sound → Ends guards 0 start (startJudging fullSets) ws
@@ -230,7 +234,7 @@ verdict-is-of-the-rules guards ws sound = (reducible-case (start-ends guards ws 
     )
 
 -- Two ways of giving guards that agree on every variable of a frame.
-module _ (P Q : ℕ → Guard) (same : (x : ℕ) → x < 1024 → P x ≡ Q x) where
+module _ (P Q : ℕ → Guard) (same : (x : ℕ) → x < variableCount → P x ≡ Q x) where
   -- the guard of a variable that is accessed
   same-guard : {a : Action} {x : Variable} {g : Guard} → ObjectInRange a → Accesses a x → P (x .0) ≡ g → Q (x .0) ≡ g
   same-guard {x = x} h reads e = sym (same (x .0) h) ∙ e
@@ -266,32 +270,32 @@ module _ (P Q : ℕ → Guard) (same : (x : ℕ) → x < 1024 → P x ≡ Q x) w
   same-at (later {w = w} {f = f} d e r rest) = later d e (same-steps (decoded-in-range w f d .object) r) (same-at rest)
 
 -- so a reply that is of the rules with the one is with the other
-with-same : (P Q : ℕ → Guard) → ((x : ℕ) → x < 1024 → P x ≡ Q x) → (ws : List ℕ) (r : Reply) → OfTheRules P ws r → OfTheRules Q ws r
+with-same : (P Q : ℕ → Guard) → ((x : ℕ) → x < variableCount → P x ≡ Q x) → (ws : List ℕ) (r : Reply) → OfTheRules P ws r → OfTheRules Q ws r
 with-same P Q same ws r (a, b) = (
   (λ e. same-all P Q same (a .0 e), λ y. a .1 (same-all Q P back y)),
   λ i k. (λ e. same-at P Q same (b i k .0 e), λ y. b i k .1 (same-at Q P back y)),
 )
   where
-    back : (x : ℕ) → x < 1024 → Q x ≡ P x
+    back : (x : ℕ) → x < variableCount → Q x ≡ P x
     back x h = sym (same x h)
 
 -- an accepted list, and a table with room, leave the judgement's reply
-accepted : (list ws : List ℕ) (n : ℕ) → guardsRead list .reply ≡ guards-reply.Lines n → declaredReply list ws ≡ judgement (guardsRead list .table) fullSets ws .reply
-unfolding declaredReply
+accepted : (list ws : List ℕ) (n : ℕ) → guardsRead list .reply ≡ guards-reply.Lines n → verdictUnder Declared list ws ≡ judgement (guardsRead list .table) fullSets ws .reply
+unfolding verdictUnder
 accepted list ws n e = rw e
 
-with-room : (ws : List ℕ) (m : ℕ) → 1024 ≤ m → inferredReply ws m ≡ judgement inferredGuards fullSets ws .reply
+with-room : (ws : List ℕ) (m : ℕ) → variableCount ≤ m → inferredReply ws m ≡ judgement inferredGuards fullSets ws .reply
 unfolding inferredReply
 with-room ws m h = go (judgement inferredGuards fullSets ws .reply)
   where
     go : (r : Reply) → withTable r m ≡ r
     go (reply.Refused x) = refl
-    go (reply.Judged v) = rw (le-ltb m 1024 h)
+    go (reply.Judged v) = rw (le-ltb m variableCount h)
 
 -- the guards of the inferred verdict
-all-inferred : (x : ℕ) → x < 1024 → guarding inferredGuards x ≡ Inferred
+all-inferred : (x : ℕ) → x < variableCount → guarding inferredGuards x ≡ Inferred
 unfolding inferredGuards
-all-inferred x h = ap guardOf (getD-replicate 1024 x 65 0 h)
+all-inferred x h = ap guardOf (getD-replicate variableCount x inferredCode 0 h)
 
 -- The same of the guards that the lines of a list name.
 pub declared-is-of-the-rules : DeclaredIsOfTheRules

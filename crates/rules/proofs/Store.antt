@@ -10,7 +10,9 @@ use borrow.Author.Tests.{eqb-true, eqb-false, eq-eqb, ne-eqb}
 use lib.Bits.{bitAnd}
 use lib.Dec.{eqb}
 use lib.ListN.{length, getD, set, length-set}
-use lib.Seq.{getD-set-same, getD-set-other, set-getD}
+use lib.Seq.{set-getD}
+use Rattle.turn.specs.Turn.{judgeFrame}
+use Rattle.frame.specs.Limits.{threadCount, variableCount}
 use Rattle.frame.specs.Frame.{ObjectInRange, InRange}
 use Rattle.frame.specs.declared.Thread.{Thread}
 use Rattle.frame.specs.declared.Lock.{Lock}
@@ -28,8 +30,8 @@ use Rattle.instrumented.specs.Rules.{Judging, judgingOf, Judged, judged, phaseA
 use Rattle.operation.specs.Operation.{guardedAccess, operationOf}
 use Rattle.instrumented.specs.Held.{heldSet}
 use Rattle.operation.specs.declared.Operation.the-variants.{Protected, Inferred, Begin, End}
-use Rattle.pass.specs.Pass.{judgeFrame}
-use Rattle.frame.proofs.Shared.{never}
+use Rattle.laws.proofs.Logic.{never}
+use Rattle.laws.proofs.Lists.{getD-set}
 use Rattle.judge.proofs.Held.{mine, mine-other}
 use Rattle.rules.proofs.Bits.{bit, bit-zero, bit-suc, none-in}
 use Rattle.rules.proofs.Acts.{acted, acts-to}
@@ -68,17 +70,9 @@ storeOf depths j = record { stage = λ u. stageAt (getD depths u 0) (getD (j .co
 
 -- The lists have an entry for each thread and each variable.
 pub record Sized (depths : List ℕ) (j : Judging) : Type 0 where
-  pub depths-long : length depths ≡ 32
-  pub commits-long : length (j .commits) ≡ 32
-  pub sets-long : length (j .sets) ≡ 1024
-
--- an entry after a store to the list
-pub getD-set : (l : List ℕ) (i v u : ℕ) → i < length l → getD (set l i v) u 0 ≡ cond (eqb u i) v (getD l u 0)
-getD-set l i v u h = go (eqb u i) refl
-  where
-    go : (b : Bool) → eqb u i ≡ b → getD (set l i v) u 0 ≡ cond (eqb u i) v (getD l u 0)
-    go true e = rw (e, eqb-true u i e) (getD-set-same l i v 0 h)
-    go false e = rw e (getD-set-other l i u v 0 (eqb-false u i e))
+  pub depths-long : length depths ≡ threadCount
+  pub commits-long : length (j .commits) ≡ threadCount
+  pub sets-long : length (j .sets) ≡ variableCount
 
 -- the stage by a test
 stage-cond : (b : Bool) (d c e f : ℕ) → stageAt (cond b d e) (cond b c f) ≡ cond b (stageAt d c) (stageAt e f)
@@ -95,12 +89,12 @@ stays φ t g e = ap (λ (s : ℕ → Stage). record { stage = s; locks = φ .loc
 
 module _ (depths : List ℕ) (j : Judging) (z : Sized depths j) where
   -- a store to a variable's set
-  narrowed : (x l : ℕ) → x < 1024 → storeOf depths (judgingOf (j .begins) (j .commits) (set (j .sets) x l)) ≡ putLocks (storeOf depths j) x l
+  narrowed : (x l : ℕ) → x < variableCount → storeOf depths (judgingOf (j .begins) (j .commits) (set (j .sets) x l)) ≡ putLocks (storeOf depths j) x l
   narrowed x l h =
       ap (λ (g : ℕ → ℕ). record { stage = storeOf depths j .stage; locks = g })
       (fun-ext (λ y. getD-set (j .sets) x l y (omega (arith, z .sets-long))))
 
-  module _ (t : ℕ) (small : t < 32) where
+  module _ (t : ℕ) (small : t < threadCount) where
     -- a store to a thread's depth and commit
     moved : (b : List ℕ) (d c : ℕ) → storeOf (set depths t d) (judgingOf b (set (j .commits) t c) (j .sets)) ≡ putStage (storeOf depths j) t (stageAt d c)
     moved b d c = ap (λ (g : ℕ → Stage). record { stage = g; locks = storeOf depths j .locks }) (fun-ext go)
@@ -116,8 +110,8 @@ module _ (depths : List ℕ) (j : Judging) (z : Sized depths j) where
         ap (λ (c : List ℕ). storeOf (set depths t d) (judgingOf (j .begins) c (j .sets))) (sym (set-getD (j .commits) t 0))
         ∙ moved (j .begins) d (getD (j .commits) t 0)
 
-    marked : (c : ℕ) → storeOf depths (judgingOf (j .begins) (set (j .commits) t c) (j .sets)) ≡ putStage (storeOf depths j) t (stageAt (getD depths t 0) c)
-    marked c =
+    committing : (c : ℕ) → storeOf depths (judgingOf (j .begins) (set (j .commits) t c) (j .sets)) ≡ putStage (storeOf depths j) t (stageAt (getD depths t 0) c)
+    committing c =
         ap (λ (l : List ℕ). storeOf l (judgingOf (j .begins) (set (j .commits) t c) (j .sets))) (sym (set-getD depths t 0))
         ∙ moved (j .begins) (getD depths t 0) c
 
@@ -156,7 +150,7 @@ commitOf j t = getD (j .commits) (t .0) 0
 stage-deep : (d e c : ℕ) → (d ≡ 0 → ⊥) → (e ≡ 0 → ⊥) → stageAt d c ≡ stageAt e c
 stage-deep d e c p q = rw (ne-eqb d 0 p, ne-eqb e 0 q)
 
-module _ (guards : List ℕ) (s : State) (j : Judging) (z : Sized (s .depths) j) (i : ℕ) (t : Thread) (small : t .0 < 32) where
+module _ (guards : List ℕ) (s : State) (j : Judging) (z : Sized (s .depths) j) (i : ℕ) (t : Thread) (small : t .0 < threadCount) where
   -- the store and the sizes after a frame that commits
   committed-sized : (c : ℕ) → Sized (s .depths) (withCommit t c j)
   committed-sized c = record {
@@ -168,13 +162,13 @@ module _ (guards : List ℕ) (s : State) (j : Judging) (z : Sized (s .depths) j)
   committed-inside : eqb (depthOf s t) 0 ≡ false
       → storeOf (s .depths) (withCommit t (committed (depthOf s t) (commitOf j t) i) j) ≡ putStage (storeOf (s .depths) j) (t .0) PostCommit
   committed-inside e =
-      marked (s .depths) j z (t .0) small (committed (depthOf s t) (commitOf j t) i)
+      committing (s .depths) j z (t .0) small (committed (depthOf s t) (commitOf j t) i)
       ∙ ap (putStage (storeOf (s .depths) j) (t .0)) (stage-committed (depthOf s t) (commitOf j t) i e)
 
   committed-outside : eqb (depthOf s t) 0 ≡ true
       → storeOf (s .depths) (withCommit t (committed (depthOf s t) (commitOf j t) i) j) ≡ storeOf (s .depths) j
   committed-outside e =
-      marked (s .depths) j z (t .0) small (committed (depthOf s t) (commitOf j t) i)
+      committing (s .depths) j z (t .0) small (committed (depthOf s t) (commitOf j t) i)
       ∙ stays (storeOf (s .depths) j) (t .0) _ (rw e)
 
   -- an acquire, by the tests of the depth and of the commit
@@ -209,7 +203,7 @@ module _ (guards : List ℕ) (s : State) (j : Judging) (z : Sized (s .depths) j)
     unprotected-told g false e false f = rw (e, f) (wrong refl refl (wrong-race-violate acc g (rw (e, f))))
 
     -- an access under an inferred guard, by whether the set and the locks held share none
-    inferred-told : x .0 < 1024 → guarding guards (x .0) ≡ guard.Inferred → (b : Bool) → eqb (bitAnd (getD (j .sets) (x .0) 0) (heldSet (t .0) (s .owners))) 0 ≡ b
+    inferred-told : x .0 < variableCount → guarding guards (x .0) ≡ guard.Inferred → (b : Bool) → eqb (bitAnd (getD (j .sets) (x .0) 0) (heldSet (t .0) (s .owners))) 0 ≡ b
         → Told (guarding guards) s (s .depths) j i (t .0) a (judgeOperation i t (depthOf s t) (heldSet (t .0) (s .owners)) (Inferred x) j)
     unfolding judgeOperation
     inferred-told h g true e = rw e (wrong refl refl (wrong2-race acc g (eqb-true _ _ e)))
@@ -222,7 +216,7 @@ module _ (guards : List ℕ) (s : State) (j : Judging) (z : Sized (s .depths) j)
         })
 
     -- a read or a write, by the guard of the variable
-    access-told : x .0 < 1024 → (g : Guard) → guarding guards (x .0) ≡ g
+    access-told : x .0 < variableCount → (g : Guard) → guarding guards (x .0) ≡ g
         → Told (guarding guards) s (s .depths) j i (t .0) a (judgeOperation i t (depthOf s t) (heldSet (t .0) (s .owners)) (guardedAccess g x) j)
     unfolding judgeOperation
     access-told h (guard.Locked m) g = locked-told m g (contains (heldSet (t .0) (s .owners)) m) refl

@@ -1,5 +1,6 @@
--- The claim that ties inferred guards to declared ones: "inferred finds a recording reducible exactly if some choice of one lock for each
--- accessed variable does". It is stated over guards of all three kinds.
+-- The claim that ties inferred guards to declared ones: "With inferred guards a recording is reducible exactly if it is so with some choice
+-- of one lock for each accessed variable as its declared guard." It is stated over guards of all three kinds.
+-- Quotes are from docs/FORMAT.md.
 use Prim.Native.Nat.{ℕ, _<_}
 use mathlib.Core.Path.{_≡_}
 use mathlib.Core.Bool.{cond}
@@ -7,6 +8,8 @@ use mathlib.Core.Logic.{_↔_}
 use mathlib.Core.List.{List, [], _∷_}
 use lib.Dec.{ltb}
 use lib.ListN.{length, getD, drop}
+use Rattle.guards.specs.Guards.{unprotectedCode}
+use Rattle.frame.specs.Limits.{lockCount, variableCount}
 use Rattle.reply.specs.Reply.{reducible}
 use Rattle.pass.specs.Pass.{fullSets, judgement}
 use Rattle.verdict.specs.Verdict.{inferredReply}
@@ -17,13 +20,13 @@ Reducible guards ws = judgement guards fullSets ws .reply ≡ reducible
 
 -- A lock for each variable. Those of variables that no frame accesses are of no account.
 pub record Choice (locks : List ℕ) : Type 0 where
-  pub long : length locks ≡ 1024
-  pub small : (x : ℕ) → getD locks x 0 < 64
+  pub long : length locks ≡ variableCount
+  pub small : (x : ℕ) → getD locks x 0 < lockCount
 
 -- The guards with the chosen lock in place of each guard that is inferred (a code above 64).
 abbrev pub choose : List ℕ → List ℕ → List ℕ
 choose [] locks = []
-choose (c ∷ guards) locks = cond (ltb 64 c) (getD locks 0 0) c ∷ choose guards (drop 1 locks)
+choose (c ∷ guards) locks = cond (ltb unprotectedCode c) (getD locks 0 0) c ∷ choose guards (drop 1 locks)
 
 -- Term 2's second sentence, over whole recordings, both directions.
 abbrev pub InferredIsSomeChoice : Type 0
@@ -35,4 +38,4 @@ InferredIsSomeChoice =
 abbrev pub InferredVerdictIsSomeChoice : Type 0
 InferredVerdictIsSomeChoice =
     (ws : List ℕ)
-    → (inferredReply ws 1024 ≡ reducible ↔ (locks : List ℕ) × Choice locks × Reducible locks ws)
+    → (inferredReply ws variableCount ≡ reducible ↔ (locks : List ℕ) × Choice locks × Reducible locks ws)

@@ -2,6 +2,7 @@
 -- whole recordings. The rules of figure 11 that are those of figure 8 over again ([INS2 ACQUIRE], [INS2 RELEASE COMMIT], ..) are stated once;
 -- figure 8's accesses are of variables whose guard is declared, figure 11's of those whose guard is inferred. The empty operation is no frame.
 -- In this order: figure 4 and the claim of sound frames, the stores, figures 8 and 11, recordings, the claims of the verdicts.
+-- Quotes are from docs/FORMAT.md, but for those of the paper's section 2.2 and figures.
 use Prim.Native.Nat.{ℕ, suc, _+_, _-_, _≤_, _<_}
 use mathlib.Core.Path.{_≡_}
 use mathlib.Core.Bool.{cond}
@@ -10,6 +11,8 @@ use mathlib.Core.List.{List, [], _∷_}
 use lib.Bits.{bitAnd}
 use lib.Dec.{eqb}
 use lib.ListN.{getD, set}
+use Rattle.guards.specs.declared.Judgement.the-variants.{Declared}
+use Rattle.frame.specs.Limits.{variableCount, deepest}
 use Rattle.frame.specs.Frame.{decodeWord}
 use Rattle.frame.specs.declared.Lock.{Lock}
 use Rattle.frame.specs.declared.Variable.{Variable}
@@ -32,7 +35,7 @@ use Rattle.reply.specs.declared.Reply.{Reply}
 use Rattle.reply.specs.declared.Violation.{Violation}
 use Rattle.instrumented.specs.Held.{heldSet}
 use Rattle.pass.specs.Pass.{fullSets, judgement}
-use Rattle.verdict.specs.Verdict.{declaredReply, inferredReply}
+use Rattle.verdict.specs.Verdict.{verdictUnder, inferredReply}
 
 -- An operation of thread t leads to the state n: figure 4's rules on the owner of each lock, 0 for none and else a thread plus 1 (σ), and on the
 -- depth of each thread (A(Π(t))). A recording has no values, so a read has no premise and a write no effect.
@@ -48,16 +51,16 @@ module _ (s : State) (t : ℕ) where
     act-release : {m : Lock} → getD (s .owners) (m .0) 0 ≡ t + 1 → Acts (action.Release m) (stateOf (set (s .owners) (m .0) 0) (s .depths))
     -- [ACT OTHER], and "if T(t, π, begin, π′) then A(π′) = A(π) + 1" of section 2.2
     act-other-begin : Acts action.Begin (stateOf (s .owners) (set (s .depths) t (getD (s .depths) t 0 + 1)))
-    -- [ACT OTHER], and "if T(t, π, end, π′), then A(π) > 0 and A(π′) = A(π) - 1"
+    -- [ACT OTHER], and "if T(t, π, end, π′), then A(π) > 0 and A(π′) = A(π) - 1" of section 2.2
     act-other-end : 0 < getD (s .depths) t 0 → Acts action.End (stateOf (s .owners) (set (s .depths) t (getD (s .depths) t 0 - 1)))
 
--- Document 01's own limit, which the figures do not have: "9: begin inside 15 open blocks of this thread".
+-- The format's own limit, which the figures do not have: "9: begin inside 15 open blocks of this thread".
 abbrev pub BelowLimit : Action → ℕ → Type 0
 BelowLimit (action.Acquire m) d = Unit {0}
 BelowLimit (action.Release m) d = Unit {0}
 BelowLimit (action.Read x) d = Unit {0}
 BelowLimit (action.Write x) d = Unit {0}
-BelowLimit action.Begin d = d < 15
+BelowLimit action.Begin d = d < deepest
 BelowLimit action.End d = Unit {0}
 
 -- Figure 4 has no step for the frame.
@@ -73,7 +76,7 @@ SoundnessIsOfTheRules =
     → ((n : State) → stepFrame f s ≡ stepped outcome.Next n ↔ (Acts s (f .thread .0) (f .action) n × BelowLimit (f .action) (getD (s .depths) (f .thread .0) 0)))
     × (stepFrame f s .outcome ≡ outcome.Bad refusal.LockTaken ↔ ((m : Lock) × (f .action ≡ action.Acquire m) × NoStep f s))
     × (stepFrame f s .outcome ≡ outcome.Bad refusal.LockNotHeld ↔ ((m : Lock) × (f .action ≡ action.Release m) × NoStep f s))
-    × (stepFrame f s .outcome ≡ outcome.Bad refusal.TooDeep ↔ ((f .action ≡ action.Begin) × (15 ≤ getD (s .depths) (f .thread .0) 0)))
+    × (stepFrame f s .outcome ≡ outcome.Bad refusal.TooDeep ↔ ((f .action ≡ action.Begin) × (deepest ≤ getD (s .depths) (f .thread .0) 0)))
     × (stepFrame f s .outcome ≡ outcome.Bad refusal.NoOpenBlock ↔ ((f .action ≡ action.End) × NoStep f s))
 
 -- The paper's instrumentation store φ: the phase of each thread, and the candidate lock set of each variable.
@@ -91,7 +94,7 @@ putStage φ t g = record { stage = λ u. cond (eqb u t) g (φ .stage u); locks =
 abbrev pub putLocks : Store → ℕ → ℕ → Store
 putLocks φ x l = record { stage = φ .stage; locks = λ y. cond (eqb y x) l (φ .locks y) }
 
--- "a ∈ {rd(x, v), wr(x, v)}"
+-- "a ∈ {rd(x, v), wr(x, v)}" of figures 8 and 11
 pub data Accesses : Action → Variable → Type 0 where
   reads : {x : Variable} → Accesses (action.Read x) x
   writes : {x : Variable} → Accesses (action.Write x) x
@@ -121,7 +124,7 @@ module _ (P : ℕ → Guard) (s : State) (φ : Store) (t : ℕ) where
     ins-nested-exit : 1 < depth → Steps action.End φ
     ins2-access : {a : Action} {x : Variable} → Accesses a x → P (x .0) ≡ Inferred → (shared x ≡ 0 → ⊥) → Steps a (putLocks φ (x .0) (shared x))
 
-  -- An operation of thread t goes wrong, with the kind that document 01 gives to the rule.
+  -- An operation of thread t goes wrong, with the kind that docs/FORMAT.md gives to the rule.
   pub data Wrong : Action → Kind → Type 0 where
     wrong-access-protected : {a : Action} {x : Variable} {m : Lock} → Accesses a x → P (x .0) ≡ Locked m → (owner m ≡ t + 1 → ⊥) → Wrong a GuardNotHeld
     wrong-race-violate : {a : Action} {x : Variable} → Accesses a x → P (x .0) ≡ Unprotected → φ .stage t ≡ PostCommit → Wrong a UnprotectedAfterCommit
@@ -164,8 +167,8 @@ VerdictIsOfTheRules = (guards ws : List ℕ) → checkReply ws ≡ check.Sound �
 abbrev pub DeclaredIsOfTheRules : Type 0
 DeclaredIsOfTheRules =
     (list ws : List ℕ) (n : ℕ) → guardsRead list .reply ≡ guards-reply.Lines n → checkReply ws ≡ check.Sound
-    → OfTheRules (listedGuard list n) ws (declaredReply list ws)
+    → OfTheRules (listedGuard list n) ws (verdictUnder Declared list ws)
 
 -- The same of the inferred verdict, with a table of m candidate sets: every guard is inferred.
 abbrev pub InferredIsOfTheRules : Type 0
-InferredIsOfTheRules = (ws : List ℕ) (m : ℕ) → checkReply ws ≡ check.Sound → 1024 ≤ m → OfTheRules (λ x. Inferred) ws (inferredReply ws m)
+InferredIsOfTheRules = (ws : List ℕ) (m : ℕ) → checkReply ws ≡ check.Sound → variableCount ≤ m → OfTheRules (λ x. Inferred) ws (inferredReply ws m)

@@ -1,4 +1,4 @@
--- Sentences: texts with marks in them. `piece` says what each mark stands for. Lines count from 1 and places, in brackets, from 0.
+-- Sentences: texts with slots in them. `piece` says what each slot stands for. Lines count from 1 and places, in brackets, from 0.
 use Prim.Native.Nat.{ℕ}
 use Prim.Native.Char.{code}
 use mathlib.Core.Bool.{cond}
@@ -23,7 +23,7 @@ piece f c =
     (cond (eqb c (code "#")) (decimal (f .place))
     (c ∷ []))))))))))
 
--- A sentence with its marks filled in.
+-- A sentence with its slots filled in.
 unfoldable pub filled : Facts → List ℕ → List ℕ
 filled f [] = []
 filled f (c ∷ t) = piece f c ++ filled f t

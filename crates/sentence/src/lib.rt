@@ -1,4 +1,4 @@
-// Sentences with marks in them, written into a lent buffer from a place on, as far as there is room. Each function replies the place behind
+// Sentences with slots in them, written into a lent buffer from a place on, as far as there is room. Each function replies the place behind
 // what it wrote.
 use frame::Decoded;
 use frame::Thread;
@@ -56,7 +56,7 @@ fn put_piece(out: &mut [u8], at: usize, c: u8, f: Facts) -> usize
     }
 }
 
-// A sentence with its marks filled in.
+// A sentence with its slots filled in.
 pub fn say(out: &mut [u8], at: usize, sentence: &[u8], f: Facts) -> usize
     ensures place { λ r. ⌜ r ≡ behind (length (now (out .entry))) at (filled f (now (sentence .entry))) ⌝ }
     ensures contents { λ r. ⌜ now (out .exit) ≡ written (now (out .entry)) at (filled f (now (sentence .entry))) ⌝ }

@@ -1,4 +1,2 @@
--- Written: a buffer that is written from its front. Units: the unit writer's loop.
-pub mod Written
+-- Units: the unit writer's loop.
 pub mod Units
-pub mod Open

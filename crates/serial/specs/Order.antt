@@ -1,5 +1,6 @@
 -- Units, commits and the serial order of a recording. In this order: the state of a pass, the commit of each frame's unit, the order by
 -- commits over any element type, closed recordings and open blocks, what a serial order is asked to be.
+-- Quotes are from docs/FORMAT.md.
 use Prim.Native.Nat.{ℕ, zero, suc, _+_, _-_, _≤_, _<_}
 use mathlib.Core.Path.{_≡_}
 use mathlib.Core.Bool.{Bool, true, false, cond, _&&_}
@@ -8,14 +9,13 @@ use lib.Dec.{eqb}
 use lib.ListN.{length, getD, take}
 use Rattle.frame.specs.Frame.{decodeWord}
 use Rattle.frame.specs.declared.Thread.{Thread}
-use Rattle.frame.specs.declared.Action.{Action}
-use Rattle.frame.specs.declared.Action.the-variants.{Acquire, Release, Read, Write, Begin, End}
 use Rattle.frame.specs.declared.Frame.{Frame}
 use Rattle.frame.specs.declared.Decoded.{Decoded}
 use Rattle.frame.specs.declared.Decoded.the-variants as decoded
-use Rattle.soundness.specs.Soundness.{State, stepFrame, checkFrom, start}
+use Rattle.soundness.specs.Soundness.{State, nest, stepFrame, checkFrom, start}
 use Rattle.instrumented.specs.Rules.{Phase, outside, before, after, Judging, phaseAt}
-use Rattle.pass.specs.Pass.{judgeFrame, startJudging, fullSets}
+use Rattle.turn.specs.Turn.{judgeFrame}
+use Rattle.pass.specs.Pass.{startJudging, fullSets}
 
 -- The state of a judging pass: locks and depths, and where the threads stand.
 pub record Point : Type 0 where
@@ -107,15 +107,6 @@ pub record FirstOpen (ws : List ℕ) (b : ℕ) : Type 0 where
   pub thread : ℕ
   pub is-open : Open ws thread b
   pub smallest : (t c : ℕ) → Open ws t c → b ≤ c
-
--- A thread's depth after its action: "its begins less its ends".
-abbrev pub nest : ℕ → Action → ℕ
-nest d (Acquire l) = d
-nest d (Release l) = d
-nest d (Read v) = d
-nest d (Write v) = d
-nest d Begin = d + 1
-nest d End = d - 1
 
 -- "no other thread's frame inside a block" (the paper's figure 6): at each frame every other thread is outside its blocks. `depth` has the
 -- depth of each thread before the first frame. A word that is no frame is in no such order.

@@ -1,33 +1,25 @@
-// The units of a recording, each with its frames, and the begins of blocks that are still open.
+// The units of a recording, each with its frames.
 use frame::Action;
 use frame::Decoded;
 use frame::Frame;
 use frame::Refused;
 use frame::Thread;
 use reply::Mark;
-use reply::Reply;
 ghost use mathlib.Core.Path.{_≡_};
 ghost use mathlib.Core.Bool.{cond};
 ghost use mathlib.Core.List.{_++_};
-ghost use Prim.Native.Nat.{_+_, _≤_};
+ghost use Prim.Native.Nat.{_+_, _≤_, _<_};
 ghost use lib.ListN.{length, take, drop};
 ghost use Rattle.instrumented.specs.Rules.{phaseOf};
 ghost use Rattle.soundness.specs.Soundness.{checkReply};
 ghost use Rattle.soundness.specs.declared.CheckReply.the-variants as check;
 ghost use Rattle.serial.specs.Order.{settled};
-ghost use Rattle.serial.specs.Walk.{ownFrame, unitOf, unitIn, unitStart, earlier, firstOpenFrom};
+ghost use Rattle.serial.specs.Walk.{ownFrame, unitOf, unitIn, unitStart};
 
 // A frame seen by a thread: its own, with the depth after it, or another's.
 pub enum Own {
-    Mine(u8),
+    Mine(u32),
     Other,
-}
-
-// What a walk answers, the depth of each thread, and its outermost begin.
-pub struct Marks {
-    pub reply: Reply,
-    pub depths: [u8; 32],
-    pub begins: [u32; 32],
 }
 
 // What copying a unit answers: the place behind it, or the refusal of a word that is no frame.
@@ -36,7 +28,8 @@ pub enum UnitReply {
     Refused(Refused),
 }
 
-fn own_frame(f: Frame, t: Thread, depth: u8) -> Own
+fn own_frame(f: Frame, t: Thread, depth: u32) -> Own
+    requires { ⌜ depth < 4294967295 ⌝ }
     ensures { λ r. ⌜ r ≡ ownFrame (Decoded.Frame f) t depth ⌝ }
 {
     let thread = f.thread;
@@ -49,13 +42,7 @@ fn own_frame(f: Frame, t: Thread, depth: u8) -> Own
         Action::Release(_) => Own::Mine(depth),
         Action::Read(_) => Own::Mine(depth),
         Action::Write(_) => Own::Mine(depth),
-        Action::Begin => {
-            if depth < 15 {
-                Own::Mine(depth + 1)
-            } else {
-                Own::Mine(depth)
-            }
-        }
+        Action::Begin => Own::Mine(depth + 1),
         Action::End => {
             if depth == 0 {
                 Own::Mine(0)
@@ -73,7 +60,7 @@ fn write_unit(words: &[u32], begin: usize, t: Thread, out: &mut [u32]) -> UnitRe
     ensures contents { λ r. ⌜ now (out .exit) ≡ unitOf (now (words .entry)) begin t ++ drop (length (unitOf (now (words .entry)) begin t)) (now (out .entry)) ⌝ }
 {
     let mut n: usize = 0;
-    let mut depth: u8 = 0;
+    let mut depth: u32 = 0;
     let mut i = begin;
     while i < words.len() {
         let word = words[i];
@@ -148,36 +135,4 @@ pub fn unit_start(d: u8, begin: u32, commit: u32, depth: u8, committed: u32, i: 
         return mark_if(is_settled(depth, committed), begin);
     }
     Mark::Absent
-}
-
-// The earlier of two places.
-fn earlier_of(a: Mark, b: Mark) -> Mark
-    ensures { λ r. ⌜ r ≡ earlier a b ⌝ }
-{
-    let Mark::At(x) = a else {
-        return b;
-    };
-    let Mark::At(y) = b else {
-        return Mark::At(x);
-    };
-    if y < x {
-        return Mark::At(y);
-    }
-    Mark::At(x)
-}
-
-// The earliest begin of a block that is open.
-pub fn first_open(m: Marks) -> Mark
-    ensures { λ r. ⌜ r ≡ firstOpenFrom 32 0 Mark.Absent (m .depths) (m .begins) ⌝ }
-{
-    let depths = m.depths;
-    let begins = m.begins;
-    let mut least = Mark::Absent;
-    let mut k: usize = 0;
-    while k < 32 {
-        let b = judge::begin_mark(depths[k], begins[k]);
-        least = earlier_of(least, b);
-        k += 1;
-    }
-    least
 }

@@ -1,5 +1,7 @@
 // The serial order as the tool prints it, written into a lent buffer as far as there is room; the reply is the number of bytes written.
+use frame::MOST;
 use frame::Refused;
+use guards::Judgement;
 use opening::Opened;
 use order::OrderReply;
 use output::put_text;
@@ -7,10 +9,13 @@ use phrase::Source;
 use refusaltext::explain_refusal;
 ghost use mathlib.Core.Path.{_≡_};
 ghost use lib.ListN.{length};
+ghost use Rattle.frame.specs.Limits.{mostFrames};
+ghost use Rattle.guards.specs.Guards.{guardsUnder};
 ghost use Rattle.serial.specs.Order.{serialWords};
+ghost use Rattle.order.specs.Order.{orderUnder};
 ghost use Rattle.output.specs.Output.{behind, written};
 ghost use Rattle.opening.specs.Opening.{opening};
-ghost use Rattle.serialreport.specs.SerialReport.{linesOf, orderUnder, guardsUnder, WordsOrdered, orderText, serialReport};
+ghost use Rattle.serialreport.specs.SerialReport.{linesOf, orderText, serialReport};
 
 // Words as lines.
 fn put_words(out: &mut [u8], words: &[u32]) -> usize
@@ -20,31 +25,20 @@ fn put_words(out: &mut [u8], words: &[u32]) -> usize
     let mut p = 0;
     let mut i = 0;
     while i < words.len() {
-        let l = line::word_line(words[i]);
+        let l = digits::word_line(words[i]);
         p = put_text(out, p, &l);
         i += 1;
     }
     p
 }
 
-// The serial order into a table.
-fn serial_order(declared: bool, list: &[u8], words: &[u32], serial: &mut [u32; 4096]) -> OrderReply
-    ensures reply { λ r. ⌜ r ≡ orderUnder declared (now (list .entry)) (now (words .entry)) ⌝ }
-    ensures contents { λ r. ⌜ WordsOrdered r (serialWords (guardsUnder declared (now (list .entry))) (now (words .entry))) (now (serial .exit)) ⌝ }
-{
-    if declared {
-        return order::declared(list, words, serial);
-    }
-    order::inferred(words, serial)
-}
-
 // The serial order of a recording as lines, or the refusal in words.
-fn put_order(declared: bool, list: &[u8], words: &[u32], out: &mut [u8]) -> usize
-    ensures place { λ r. ⌜ r ≡ behind (length (now (out .entry))) 0 (orderText (orderUnder declared (now (list .entry)) (now (words .entry))) (now (words .entry)) (serialWords (guardsUnder declared (now (list .entry))) (now (words .entry)))) ⌝ }
-    ensures contents { λ r. ⌜ now (out .exit) ≡ written (now (out .entry)) 0 (orderText (orderUnder declared (now (list .entry)) (now (words .entry))) (now (words .entry)) (serialWords (guardsUnder declared (now (list .entry))) (now (words .entry)))) ⌝ }
+fn put_order(j: Judgement, list: &[u8], words: &[u32], out: &mut [u8]) -> usize
+    ensures place { λ r. ⌜ r ≡ behind (length (now (out .entry))) 0 (orderText (orderUnder j (now (list .entry)) (now (words .entry)) mostFrames) (now (words .entry)) (serialWords (guardsUnder j (now (list .entry)) .table) (now (words .entry)))) ⌝ }
+    ensures contents { λ r. ⌜ now (out .exit) ≡ written (now (out .entry)) 0 (orderText (orderUnder j (now (list .entry)) (now (words .entry)) mostFrames) (now (words .entry)) (serialWords (guardsUnder j (now (list .entry)) .table) (now (words .entry)))) ⌝ }
 {
-    let mut serial = [0u32; 4096];
-    let q = serial_order(declared, list, words, &mut serial);
+    let mut serial = [0u32; MOST];
+    let q = order::order(j, list, words, &mut serial);
     match q {
         OrderReply::Written(n) => {
             let k = n as usize;
@@ -55,16 +49,16 @@ fn put_order(declared: bool, list: &[u8], words: &[u32], out: &mut [u8]) -> usiz
 }
 
 // The serial order as lines.
-pub fn serial_report(declared: bool, list: &[u8], text: &[u8], out: &mut [u8]) -> usize
-    ensures place { λ r. ⌜ r ≡ behind (length (now (out .entry))) 0 (serialReport declared (now (list .entry)) (now (text .entry))) ⌝ }
-    ensures contents { λ r. ⌜ now (out .exit) ≡ written (now (out .entry)) 0 (serialReport declared (now (list .entry)) (now (text .entry))) ⌝ }
+pub fn serial_report(j: Judgement, list: &[u8], text: &[u8], out: &mut [u8]) -> usize
+    ensures place { λ r. ⌜ r ≡ behind (length (now (out .entry))) 0 (serialReport j (now (list .entry)) (now (text .entry))) ⌝ }
+    ensures contents { λ r. ⌜ now (out .exit) ≡ written (now (out .entry)) 0 (serialReport j (now (list .entry)) (now (text .entry))) ⌝ }
 {
-    let mut words = [0u32; 4096];
-    let o = opening::open_recording(declared, list, text, &mut words);
+    let mut words = [0u32; MOST];
+    let o = opening::open_recording(j, list, text, &mut words);
     match o {
         Opened::Frames(n) => {
             let k = n as usize;
-            put_order(declared, list, &words[..k], out)
+            put_order(j, list, &words[..k], out)
         }
         Opened::Refused(s, x) => explain_refusal(out, 0, s, &words[..0], x),
     }

@@ -9,7 +9,9 @@ use lib.ListN.{length, getD, drop, drop-of-length-le}
 use lib.Seq.{drop-cons}
 use lib.Dec.{ltb}
 use borrow.Author.Tests.{le-ltb, ltb-false}
-use Rattle.frame.proofs.Shared.{never}
+use Rattle.frame.specs.Refusal.{refusedAt}
+use Rattle.frame.specs.Limits.{mostFrames}
+use Rattle.laws.proofs.Logic.{never}
 use Rattle.frame.specs.Frame.{decodeWord}
 use Rattle.frame.specs.declared.Frame.{Frame}
 use Rattle.frame.specs.declared.Decoded.{Decoded}
@@ -21,10 +23,10 @@ use Rattle.soundness.specs.declared.CheckReply.{CheckReply}
 use Rattle.soundness.specs.declared.CheckReply.the-variants as reply
 use Rattle.soundness.specs.declared.Outcome.{Outcome}
 use Rattle.soundness.specs.declared.Outcome.the-variants as outcome
-use Rattle.soundness.specs.Soundness.{State, Stepped, stepped, stepFrame, stepDecoded, onOutcome, checked, refused, Checked, checkFrom, checkReply, start}
+use Rattle.soundness.specs.Soundness.{State, Stepped, stepped, stepFrame, stepDecoded, onOutcome, checked, Checked, checkFrom, checkReply, start}
 
-pub check-short : (ws : List ℕ) → length ws ≤ 4096 → checkReply ws ≡ checkFrom 0 start ws .reply
-check-short ws h = rw (le-ltb 4096 (length ws) h)
+pub check-short : (ws : List ℕ) → length ws ≤ mostFrames → checkReply ws ≡ checkFrom 0 start ws .reply
+check-short ws h = rw (le-ltb mostFrames (length ws) h)
 
 module _ (ws : List ℕ) (i : ℕ) (s : State) where
   pub check-end : length ws ≤ i → checkFrom i s (drop i ws) ≡ checked reply.Sound s
@@ -38,12 +40,12 @@ module _ (ws : List ℕ) (i : ℕ) (s : State) where
     opened = rw (drop-cons ws i 0 h, add-one i)
 
     -- the word does not decode
-    pub check-bad : (r : Refusal) → decodeWord (getD ws i 0) ≡ decoded.Bad r → checkFrom i s (drop i ws) ≡ checked (refused r i) s
+    pub check-bad : (r : Refusal) → decodeWord (getD ws i 0) ≡ decoded.Bad r → checkFrom i s (drop i ws) ≡ checked (reply.Refused (refusedAt r i)) s
     check-bad r e = opened ∙ rw e
 
     module _ (f : Frame) (n : State) (e : decodeWord (getD ws i 0) ≡ decoded.Frame f) where
       -- the frame is refused
-      pub check-fail : (r : Refusal) → stepFrame f s ≡ stepped (outcome.Bad r) n → checkFrom i s (drop i ws) ≡ checked (refused r i) n
+      pub check-fail : (r : Refusal) → stepFrame f s ≡ stepped (outcome.Bad r) n → checkFrom i s (drop i ws) ≡ checked (reply.Refused (refusedAt r i)) n
       check-fail r g = opened ∙ rw (e, g)
 
       -- the frame passes
@@ -51,14 +53,14 @@ module _ (ws : List ℕ) (i : ℕ) (s : State) where
       check-next g = opened ∙ rw (e, g)
 
 -- a sound recording has at most 4,096 frames
-pub sound-fits : (ws : List ℕ) → checkReply ws ≡ reply.Sound → length ws ≤ 4096
-sound-fits ws e = go (ltb 4096 (length ws)) refl
+pub sound-fits : (ws : List ℕ) → checkReply ws ≡ reply.Sound → length ws ≤ mostFrames
+sound-fits ws e = go (ltb mostFrames (length ws)) refl
   where
-    go : (t : Bool) → ltb 4096 (length ws) ≡ t → length ws ≤ 4096
+    go : (t : Bool) → ltb mostFrames (length ws) ≡ t → length ws ≤ mostFrames
     go true q =
-        let f : refused refusal.TooLong 4096 ≡ reply.Sound = rw q at e in
+        let f : reply.Refused (refusedAt refusal.TooLong mostFrames) ≡ reply.Sound = rw q at e in
         never (cc)
-    go false q = ltb-false 4096 (length ws) q
+    go false q = ltb-false mostFrames (length ws) q
 
 -- The first of frames that are sound.
 pub record First (i : ℕ) (s : State) (w : ℕ) (ws : List ℕ) : Type 0 where
@@ -74,11 +76,11 @@ sound-first i s w ws c = decode-case (decodeWord w) refl
   where
     step-case : (f : Frame) → decodeWord w ≡ decoded.Frame f → (o : Outcome) (n : State) → stepFrame f s ≡ stepped o n → First i s w ws
     step-case f d outcome.Next n g = record { frame = f; next = n; is = d; passes = g; rest = rw (d, g) at c }
-    step-case f d (outcome.Bad b) n g = let y : refused b i ≡ reply.Sound = rw (d, g) at c in never (cc)
+    step-case f d (outcome.Bad b) n g = let y : reply.Refused (refusedAt b i) ≡ reply.Sound = rw (d, g) at c in never (cc)
 
     decode-case : (x : Decoded) → decodeWord w ≡ x → First i s w ws
     decode-case (decoded.Frame f) d = step-case f d (stepFrame f s .outcome) (stepFrame f s .state) refl
-    decode-case (decoded.Bad b) d = let y : refused b i ≡ reply.Sound = rw d at c in never (cc)
+    decode-case (decoded.Bad b) d = let y : reply.Refused (refusedAt b i) ≡ reply.Sound = rw d at c in never (cc)
 
 -- no word of a sound recording fails to decode
 no-bad : {A : Type 0} {b : Refusal} (i : ℕ) (s : State) (ws : List ℕ) → checkFrom i s ws .reply ≡ reply.Sound
@@ -126,9 +128,9 @@ from-place i s (w ∷ ws) m h =
     (λ n. from-place (i + 1) n ws m (omega arith))
 
 -- a recording is refused at a frame, or at 4,096
-pub check-place : (ws : List ℕ) (r : Refused) → checkReply ws ≡ reply.Refused r → r .place ≤ 4096
-check-place ws r e = rw e at (go (ltb 4096 (length ws)) refl)
+pub check-place : (ws : List ℕ) (r : Refused) → checkReply ws ≡ reply.Refused r → r .place ≤ mostFrames
+check-place ws r e = rw e at (go (ltb mostFrames (length ws)) refl)
   where
-    go : (t : Bool) → ltb 4096 (length ws) ≡ t → placeOf (checkReply ws) ≤ 4096
+    go : (t : Bool) → ltb mostFrames (length ws) ≡ t → placeOf (checkReply ws) ≤ mostFrames
     go true q = rw q (omega arith)
-    go false q = rw q (from-place 0 start ws 4096 (omega (arith, ltb-false 4096 (length ws) q)))
+    go false q = rw q (from-place 0 start ws mostFrames (omega (arith, ltb-false mostFrames (length ws) q)))

@@ -1,11 +1,14 @@
--- Which recordings are sound, and which refusal the others meet: rows 2 and 4 to 10 of document 01's table.
+-- Which recordings are sound, and which refusal the others meet: 2 of words, and 4 to 10.
 -- In this order: the state, the step of one frame, the pass from any state and place, the check of a whole recording.
+-- Quotes are from docs/FORMAT.md.
 use Prim.Native.Nat.{ℕ, _+_, _-_}
 use mathlib.Core.Bool.{cond}
 use mathlib.Core.List.{List, [], _∷_}
 use lib.ListN.{length, getD, set, replicate}
 use lib.Dec.{ltb, leb, eqb}
+use Rattle.frame.specs.Limits.{threadCount, lockCount, mostFrames, deepest}
 use Rattle.frame.specs.Frame.{decodeWord}
+use Rattle.frame.specs.Refusal.{refusedAt}
 use Rattle.frame.specs.declared.Action.{Action}
 use Rattle.frame.specs.declared.Action.the-variants.{Acquire, Release, Read, Write, Begin, End}
 use Rattle.frame.specs.declared.Frame.{Frame}
@@ -26,6 +29,19 @@ pub record State : Type 0 where
 abbrev pub stateOf : List ℕ → List ℕ → State
 stateOf o d = record { owners = o; depths = d }
 
+-- A thread's depth after its action: "its begins less its ends".
+abbrev pub nest : ℕ → Action → ℕ
+nest d (Acquire l) = d
+nest d (Release l) = d
+nest d (Read v) = d
+nest d (Write v) = d
+nest d Begin = d + 1
+nest d End = d - 1
+
+-- The depth of thread t after its action.
+abbrev pub nested : ℕ → Action → State → State
+nested t a s = stateOf (s .owners) (set (s .depths) t (nest (getD (s .depths) t 0) a))
+
 -- What one frame leads to. A refused frame leaves the state as it was.
 pub record Stepped : Type 0 where
   pub outcome : Outcome
@@ -34,8 +50,8 @@ pub record Stepped : Type 0 where
 abbrev pub stepped : Outcome → State → Stepped
 stepped o s = record { outcome = o; state = s }
 
--- "7: acquire of a lock that any thread holds, itself included; 8: release of a lock this thread does not hold;
--- 9: begin inside 15 open blocks of this thread; 10: end with none open"
+-- "7: acquire of a lock that any thread holds, itself included .. 8: release of a lock this thread does not hold ..
+-- 9: begin inside 15 open blocks of this thread .. 10: end with no open block of this thread"
 unfoldable pub stepAction : ℕ → Action → State → Stepped
 stepAction t (Acquire l) s =
     cond (eqb (getD (s .owners) (l .0) 0) 0) (stepped outcome.Next (stateOf (set (s .owners) (l .0) (t + 1)) (s .depths)))
@@ -46,11 +62,9 @@ stepAction t (Release l) s =
 stepAction t (Read v) s = stepped outcome.Next s
 stepAction t (Write v) s = stepped outcome.Next s
 stepAction t Begin s =
-    cond (leb 15 (getD (s .depths) t 0)) (stepped (outcome.Bad refusal.TooDeep) s)
-    (stepped outcome.Next (stateOf (s .owners) (set (s .depths) t (getD (s .depths) t 0 + 1))))
+    cond (leb deepest (getD (s .depths) t 0)) (stepped (outcome.Bad refusal.TooDeep) s) (stepped outcome.Next (nested t Begin s))
 stepAction t End s =
-    cond (eqb (getD (s .depths) t 0) 0) (stepped (outcome.Bad refusal.NoOpenBlock) s)
-    (stepped outcome.Next (stateOf (s .owners) (set (s .depths) t (getD (s .depths) t 0 - 1))))
+    cond (eqb (getD (s .depths) t 0) 0) (stepped (outcome.Bad refusal.NoOpenBlock) s) (stepped outcome.Next (nested t End s))
 
 abbrev pub stepFrame : Frame → State → Stepped
 stepFrame f s = stepAction (f .thread .0) (f .action) s
@@ -68,12 +82,9 @@ pub record Checked : Type 0 where
 abbrev pub checked : CheckReply → State → Checked
 checked r s = record { reply = r; state = s }
 
-abbrev pub refused : Refusal → ℕ → CheckReply
-refused r i = reply.Refused (record { reason = r; place = i })
-
 abbrev pub onOutcome : Outcome → State → ℕ → (State → Checked) → Checked
 onOutcome outcome.Next s i rest = rest s
-onOutcome (outcome.Bad r) s i rest = checked (refused r i) s
+onOutcome (outcome.Bad r) s i rest = checked (reply.Refused (refusedAt r i)) s
 
 -- The frames from place i on, in state s. "The first frame that fails decides."
 unfoldable pub checkFrom : ℕ → State → List ℕ → Checked
@@ -83,11 +94,11 @@ checkFrom i s (w ∷ ws) =
 
 -- "A recording starts with no lock held and no block open."
 unfoldable pub start : State
-start = stateOf (replicate 64 0) (replicate 32 0)
+start = stateOf (replicate lockCount 0) (replicate threadCount 0)
 
--- "recording as words, before its frames; 2: more than 4,096 words; 4096"
+-- "2: more than 4,096 words; 4096; recording as words, before its frames"
 abbrev pub checkReply : List ℕ → CheckReply
-checkReply ws = cond (ltb 4096 (length ws)) (refused refusal.TooLong 4096) (checkFrom 0 start ws .reply)
+checkReply ws = cond (ltb mostFrames (length ws)) (reply.Refused (refusedAt refusal.TooLong mostFrames)) (checkFrom 0 start ws .reply)
 
 -- The refusal of a frame that does not pass (asked of no other).
 abbrev pub outcomeRefusal : Outcome → Refusal

@@ -1,9 +1,14 @@
 // Whether a recording (the field's term is trace) is sound: each frame decodes, and locks and blocks are taken and left in turn.
 use frame::Action;
+use frame::DEEPEST;
 use frame::Decoded;
 use frame::Frame;
+use frame::LOCKS;
+use frame::MOST;
+use frame::MOST_PLACE;
 use frame::Refusal;
 use frame::Refused;
+use frame::THREADS;
 ghost use mathlib.Core.Path.{_≡_};
 ghost use Prim.Native.Nat.{_≤_};
 ghost use lib.ListN.{length, drop};
@@ -22,7 +27,7 @@ pub enum Outcome {
 }
 
 // One frame: the owner of each lock (0 for none, else a thread's number plus 1) and the depth of each thread.
-pub fn step(owners: &mut [u8; 64], depths: &mut [u8; 32], f: Frame) -> Outcome
+pub fn step(owners: &mut [u8; LOCKS], depths: &mut [u8; THREADS], f: Frame) -> Outcome
     requires { ⌜ InRange f ⌝ }
     ensures { λ r. ⌜ stepFrame f (stateOf (now (owners .entry)) (now (depths .entry))) ≡ stepped r (stateOf (now (owners .exit)) (now (depths .exit))) ⌝ }
 {
@@ -48,7 +53,7 @@ pub fn step(owners: &mut [u8; 64], depths: &mut [u8; 32], f: Frame) -> Outcome
         Action::Begin => {
             let k = t as usize;
             let d = depths[k];
-            if 15 <= d {
+            if DEEPEST <= d {
                 return Outcome::Bad(Refusal::TooDeep);
             }
             depths[k] = d + 1;
@@ -81,8 +86,8 @@ pub fn outcome_refusal(o: Outcome) -> Refusal
 // The frames from a place on, with the locks and blocks as they are there.
 pub fn check_from(
     words: &[u32],
-    owners: &mut [u8; 64],
-    depths: &mut [u8; 32],
+    owners: &mut [u8; LOCKS],
+    depths: &mut [u8; THREADS],
     from: usize,
 ) -> CheckReply
     requires { ⌜ from ≤ length (now words) ⌝ ∗ ⌜ length (now words) ≤ 4294967296 ⌝ }
@@ -113,13 +118,13 @@ pub fn check_from(
 pub fn check(words: &[u32]) -> CheckReply
     ensures { λ r. ⌜ r ≡ checkReply (now (words .entry)) ⌝ }
 {
-    if 4096 < words.len() {
+    if MOST < words.len() {
         return CheckReply::Refused(Refused {
             reason: Refusal::TooLong,
-            place: 4096,
+            place: MOST_PLACE,
         });
     }
-    let mut owners = [0u8; 64];
-    let mut depths = [0u8; 32];
+    let mut owners = [0u8; LOCKS];
+    let mut depths = [0u8; THREADS];
     check_from(words, &mut owners, &mut depths, 0)
 }

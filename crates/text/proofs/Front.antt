@@ -2,21 +2,16 @@
 use Prim.Native.Nat.{ℕ, zero, suc, _+_, _-_, _*_, _≤_, _<_}
 use mathlib.Core.Path.{_≡_, refl, ap}
 use mathlib.Core.Bool.{Bool, true, false}
-use mathlib.Core.List.{List, [], _∷_}
+use mathlib.Core.List.{List}
 use native.Mathlib.Omega.{arith}
-use lib.ListN.{length, take, drop}
-use lib.Seq.{length-take-le, take-all, take-take, getD-take}
+use lib.ListN.{length, take}
+use lib.Seq.{length-take-le, take-all, getD-take}
 use lib.Dec.{ltb, leb}
 use borrow.Author.Tests.{le-ltb, ltb-true, ltb-false, lt-leb}
+use Rattle.laws.proofs.Lists.{part}
+use Rattle.frame.specs.Limits.{mostFrames}
 use Rattle.digits.specs.Digits.{lineOf}
-use Rattle.text.specs.Text.{scanFrom, FirstBytesDecide}
-
--- a part that stands in a front of a list
-part : (at m n : ℕ) (l : List ℕ) → at + m ≤ n → take m (drop at (take n l)) ≡ take m (drop at l)
-part zero m n l h = take-take m n l (omega arith)
-part (suc at) m zero l h = absurd (omega arith)
-part (suc at) m (suc n) [] h = refl
-part (suc at) m (suc n) (x ∷ l) h = part at m n l (omega arith)
+use Rattle.text.specs.Text.{scanFrom, mostBytes, FirstBytesDecide}
 
 -- a line whose nine bytes are among the first n
 pub line-front : (s : List ℕ) (n at : ℕ) → at + 9 ≤ n → lineOf (take n s) at ≡ lineOf s at
@@ -53,4 +48,4 @@ scan-front (suc k) s n i h =
     rw (end-front s n (9 * i) (omega arith), line-front s n (9 * i) (omega arith), scan-front k s n (i + 1) (omega arith))
 
 pub first-bytes-decide : FirstBytesDecide
-first-bytes-decide s = scan-front 4096 s 36865 0 (omega arith)
+first-bytes-decide s = scan-front mostFrames s (mostBytes + 1) 0 (omega arith)

@@ -9,17 +9,19 @@ use native.Mathlib.Numerals.{add-one}
 use lib.ListN.{length, getD, take, drop, set, length-append, take-append-drop, drop-of-length-le, List·getD-append}
 use lib.Seq.{drop-cons, drop-drop, take-at, getD-at}
 use lib.Dec.{ltb, leb, eqb}
-use borrow.Author.Tests.{le-ltb, ltb-false, le-leb, lt-leb, leb-true, eqb-true, eqb-false}
-use Rattle.frame.proofs.Shared.{never, either, from-here, front-next}
+use borrow.Author.Tests.{ltb-false, le-leb, lt-leb, leb-true, eqb-true, eqb-false}
+use Rattle.laws.proofs.Logic.{never, either, from-here}
+use Rattle.laws.proofs.Lists.{front-next}
+use Rattle.frame.specs.Limits.{mostFrames}
+use Rattle.frame.specs.Refusal.{refusedAt}
 use Rattle.frame.specs.declared.Refusal.the-variants as refusal
-use Rattle.text.specs.Text.{wordIn, wordAt, refused, ifLine, scanFrom, scanned, reached, wordsTo, roomReply, readReply, readWords, linefeeds, LinesAreLinefeeds}
+use Rattle.text.specs.Text.{wordAt, ifLine, scanFrom, scanned, reached, wordsTo, roomReply, readReply, readWords, linefeeds, LinesAreLinefeeds}
 use Rattle.digits.specs.Digits.{Digits, value, none, digitOf, digitsValue, lineOf}
 use Rattle.text.specs.declared.ReadReply.{ReadReply}
 use Rattle.text.specs.declared.ReadReply.the-variants as reply
 use Rattle.digits.specs.declared.Line.{Line}
 use Rattle.digits.specs.declared.Line.the-variants as line
-use Rattle.digits.proofs.Laws.{Shown, shown, line-bound}
-use Rattle.digits.proofs.Every.{at}
+use Rattle.digits.proofs.Laws.{Shown, shown}
 
 -- the lines from line i on
 module _ (s : List ℕ) (i : ℕ) where
@@ -28,21 +30,21 @@ module _ (s : List ℕ) (i : ℕ) where
   scan-done zero h = rw (le-leb (length s) (9 * i) h)
   scan-done (suc k) h = rw (le-leb (length s) (9 * i) h)
 
-  pub scan-over : 9 * i < length s → scanFrom 0 s i ≡ refused refusal.TooLong 4096
+  pub scan-over : 9 * i < length s → scanFrom 0 s i ≡ reply.Refused (refusedAt refusal.TooLong mostFrames)
   unfolding scanFrom
   scan-over h = rw (lt-leb (length s) (9 * i) h)
 
   pub scan-step : (k m : ℕ) → k ≡ suc m → 9 * i < length s
-      → scanFrom k s i ≡ ifLine (lineOf s (9 * i)) (scanFrom m s (i + 1)) (refused refusal.Line i)
+      → scanFrom k s i ≡ ifLine (lineOf s (9 * i)) (scanFrom m s (i + 1)) (reply.Refused (refusedAt refusal.Line i))
   unfolding scanFrom
   scan-step k m e h = rw (e, lt-leb (length s) (9 * i) h)
 
 -- behind the 4,096th line all lines are read
-pub full-reached : (s : List ℕ) → reached (scanFrom 0 s 4096) ≡ 4096
+pub full-reached : (s : List ℕ) → reached (scanFrom 0 s mostFrames) ≡ mostFrames
 unfolding scanFrom
-full-reached s = go (leb (length s) (9 * 4096))
+full-reached s = go (leb (length s) (9 * mostFrames))
   where
-    go : (b : Bool) → reached (cond b (reply.Lines 4096) (refused refusal.TooLong 4096)) ≡ 4096
+    go : (b : Bool) → reached (cond b (reply.Lines mostFrames) (reply.Refused (refusedAt refusal.TooLong mostFrames))) ≡ mostFrames
     go true = refl
     go false = refl
 
@@ -67,14 +69,6 @@ pub words-turn : (s ws : List ℕ) (i w : ℕ) → i < length ws → w ≡ wordA
     → set (wordsTo s i ++ drop i ws) i w ≡ wordsTo s (i + 1) ++ drop (i + 1) ws
 unfolding wordsTo
 words-turn s ws i w h e = rw (e, front-next (wordsTo s i) ws i (wordAt s i) (length-wordsTo s i) h, add-one i)
-
-pub word-below : (s : List ℕ) (i : ℕ) → wordAt s i < 4294967296
-unfolding wordAt
-word-below s i = go (lineOf s (9 * i)) refl
-  where
-    go : (l : Line) → lineOf s (9 * i) ≡ l → wordIn (lineOf s (9 * i)) < 4294967296
-    go (line.Word w) e = rw e (line-bound s (9 * i) w e)
-    go line.Malformed e = rw e (omega arith)
 
 linefeeds-append : (xs ys : List ℕ) → linefeeds (xs ++ ys) ≡ linefeeds xs + linefeeds ys
 unfolding linefeeds
@@ -120,13 +114,13 @@ accepted zero s i n e = go (leb (length s) (9 * i)) refl
   where
     go : (t : Bool) → leb (length s) (9 * i) ≡ t → Accepted s zero i n
     go true q = ended s zero i n (leb-true (length s) (9 * i) q) (rw q at e)
-    go false q = let f : refused refusal.TooLong 4096 ≡ reply.Lines n = rw q at e in never (cc)
+    go false q = let f : reply.Refused (refusedAt refusal.TooLong mostFrames) ≡ reply.Lines n = rw q at e in never (cc)
 accepted (suc k) s i n e = go (accepted k s (i + 1) n) (leb (length s) (9 * i)) refl (lineOf s (9 * i)) refl
   where
     go : (scanFrom k s (i + 1) ≡ reply.Lines n → Accepted s k (i + 1) n) → (t : Bool) → leb (length s) (9 * i) ≡ t → (l : Line) → lineOf s (9 * i) ≡ l → Accepted s (suc k) i n
     go ih true q l p = ended s (suc k) i n (leb-true (length s) (9 * i) q) (rw q at e)
     go ih false q (line.Word w) p = goes w p (ih (rw (q, p) at e))
-    go ih false q line.Malformed p = let f : refused refusal.Line i ≡ reply.Lines n = rw (q, p) at e in never (cc)
+    go ih false q line.Malformed p = let f : reply.Refused (refusedAt refusal.Line i) ≡ reply.Lines n = rw (q, p) at e in never (cc)
 
 -- an accepted text is as long as its lines
 pub accepted-length : {s : List ℕ} {k i n : ℕ} → 9 * i ≤ length s → Accepted s k i n → 9 * n ≡ length s
@@ -154,25 +148,25 @@ accepted-line {s} {i = i} {n} (goes w e r) j a b = from-here (λ j. lineOf s (9 
 -- What a text of n lines is like.
 module _ (s : List ℕ) (n : ℕ) (e : scanned s ≡ reply.Lines n) where
   pub scan-length : 9 * n ≡ length s
-  scan-length = accepted-length (omega arith) (accepted 4096 s 0 n e)
+  scan-length = accepted-length (omega arith) (accepted mostFrames s 0 n e)
 
-  pub scan-limit : n ≤ 4096
-  scan-limit = omega (arith, accepted-limit (accepted 4096 s 0 n e))
+  pub scan-limit : n ≤ mostFrames
+  scan-limit = omega (arith, accepted-limit (accepted mostFrames s 0 n e))
 
   -- the number of lines is the number of LFs
   pub scan-linefeeds : linefeeds s ≡ n
-  scan-linefeeds = omega (arith, accepted-linefeeds (accepted 4096 s 0 n e))
+  scan-linefeeds = omega (arith, accepted-linefeeds (accepted mostFrames s 0 n e))
 
   -- each line before the n-th is one
   pub scan-lines : (j : ℕ) → j < n → lineOf s (9 * j) ≡ line.Word (wordAt s j)
-  scan-lines j h = accepted-line (accepted 4096 s 0 n e) j (omega arith) h
+  scan-lines j h = accepted-line (accepted mostFrames s 0 n e) j (omega arith) h
 
 -- What reading answers: n lines where the text has n lines and the buffer room for them.
 room : (m n : ℕ) (q : ReadReply) → roomReply m q ≡ reply.Lines n → (n ≤ m) × (q ≡ reply.Lines n)
 room m n (reply.Lines k) e = go (ltb m k) refl
   where
     go : (t : Bool) → ltb m k ≡ t → (n ≤ m) × (reply.Lines k ≡ reply.Lines n)
-    go true q = let f : refused refusal.WordBuffer k ≡ reply.Lines n = rw q at e in never (cc)
+    go true q = let f : reply.Refused (refusedAt refusal.WordBuffer k) ≡ reply.Lines n = rw q at e in never (cc)
     go false q =
         let f : reply.Lines k ≡ reply.Lines n = rw q at e in
         let g : k ≡ n = cc in
@@ -186,7 +180,7 @@ module _ (s : List ℕ) (m n : ℕ) (e : readReply s m ≡ reply.Lines n) where
   pub read-scanned : scanned s ≡ reply.Lines n
   read-scanned = room m n (scanned s) e .1
 
-  pub read-limit : n ≤ 4096
+  pub read-limit : n ≤ mostFrames
   read-limit = scan-limit s n read-scanned
 
   pub read-length : 9 * n ≡ length s
@@ -206,10 +200,6 @@ lines-are-linefeeds s ws n e =
     word : (i : ℕ) → i < n → getD (readWords s ws) i 0 ≡ wordAt s i
     word i h = rw e (List·getD-append (wordsTo s n) (drop n ws) 0 i (rw (length-wordsTo s n) h) ∙ getD-wordsTo s n i 0 h)
 
--- a text of n lines is read where there is room
-pub read-fits : (s : List ℕ) (m n : ℕ) → scanned s ≡ reply.Lines n → n ≤ m → readReply s m ≡ reply.Lines n
-read-fits s m n e h = ap (roomReply m) e ∙ rw (le-ltb m n h)
-
 -- What a buffer holds after n lines of a text were read into it.
 pub record Read (s : List ℕ) (n : ℕ) (last : List ℕ) : Type 0 where
   pub fits : n ≤ length last
@@ -221,25 +211,21 @@ in-front s ws n last g = record {
   words = rw g (take-at (wordsTo s n) (drop n ws) n (length-wordsTo s n));
 }
 
--- after `read_recording` answered n lines
-pub after-recording : (s ws : List ℕ) (n : ℕ) (last : List ℕ) → readReply s (length ws) ≡ reply.Lines n → last ≡ readWords s ws → Read s n last
-after-recording s ws n last e f = in-front s ws n last (rw e at f)
-
 -- after `read_into` answered n lines
 pub after-into : (s ws : List ℕ) (n : ℕ) (last : List ℕ) (r : ReadReply)
     → r ≡ reply.Lines n → last ≡ wordsTo s (reached r) ++ drop (reached r) ws → Read s n last
 after-into s ws n last r e f = in-front s ws n last (rw e at f)
 
 -- a text is refused at a line, or at 4,096
-scan-place : (k : ℕ) (s : List ℕ) (i : ℕ) → i + k ≤ 4096 → reached (scanFrom k s i) ≤ 4096
+scan-place : (k : ℕ) (s : List ℕ) (i : ℕ) → i + k ≤ mostFrames → reached (scanFrom k s i) ≤ mostFrames
 unfolding scanFrom
-scan-place zero s i h = either (λ r. reached r ≤ 4096) (leb (length s) (9 * i)) (omega arith) (omega arith)
+scan-place zero s i h = either (λ r. reached r ≤ mostFrames) (leb (length s) (9 * i)) (omega arith) (omega arith)
 scan-place (suc k) s i h =
-    either (λ r. reached r ≤ 4096) (leb (length s) (9 * i)) (omega arith) (go (lineOf s (9 * i)) (scan-place k s (i + 1) (omega arith)))
+    either (λ r. reached r ≤ mostFrames) (leb (length s) (9 * i)) (omega arith) (go (lineOf s (9 * i)) (scan-place k s (i + 1) (omega arith)))
   where
-    go : (l : Line) → reached (scanFrom k s (i + 1)) ≤ 4096 → reached (ifLine l (scanFrom k s (i + 1)) (refused refusal.Line i)) ≤ 4096
+    go : (l : Line) → reached (scanFrom k s (i + 1)) ≤ mostFrames → reached (ifLine l (scanFrom k s (i + 1)) (reply.Refused (refusedAt refusal.Line i))) ≤ mostFrames
     go (line.Word w) ih = ih
     go line.Malformed ih = omega arith
 
-pub reached-limit : (s : List ℕ) → reached (scanned s) ≤ 4096
-reached-limit s = scan-place 4096 s 0 (omega arith)
+pub reached-limit : (s : List ℕ) → reached (scanned s) ≤ mostFrames
+reached-limit s = scan-place mostFrames s 0 (omega arith)

@@ -1,13 +1,19 @@
 // The text of a recording: its lines, and the words that they give.
 use digits::Line;
+use frame::MOST;
+use frame::MOST_PLACE;
 use frame::Refusal;
 use frame::Refused;
 ghost use mathlib.Core.Path.{_≡_};
 ghost use mathlib.Core.List.{_++_};
 ghost use Prim.Native.Nat.{_+_, _*_, _≤_, _<_};
 ghost use lib.ListN.{length, drop};
+ghost use Rattle.frame.specs.Limits.{mostFrames};
 ghost use Rattle.text.specs.Text.{wordAt, scanFrom, scanned, reached, wordsTo, readReply, readWords};
 ghost use Rattle.digits.specs.Digits.{Values};
+
+// The most bytes of a text: a line has nine.
+pub const MOST_BYTES: usize = 9 * MOST;
 
 // The number of lines of a text, or why it is refused.
 pub enum ReadReply {
@@ -15,28 +21,28 @@ pub enum ReadReply {
     Refused(Refused),
 }
 
-// What is answered behind the 4,096th line: no byte may stand there.
+// What is answered behind the last line that a text may have: no byte may stand there.
 fn full(s: &[u8]) -> ReadReply
-    ensures { λ r. ⌜ r ≡ scanFrom 0 (now (s .entry)) 4096 ⌝ }
+    ensures { λ r. ⌜ r ≡ scanFrom 0 (now (s .entry)) mostFrames ⌝ }
 {
-    if s.len() <= 36864 {
-        return ReadReply::Lines(4096);
+    if s.len() <= MOST_BYTES {
+        return ReadReply::Lines(MOST_PLACE);
     }
     ReadReply::Refused(Refused {
         reason: Refusal::TooLong,
-        place: 4096,
+        place: MOST_PLACE,
     })
 }
 
 // The lines of a text, each word written as it is read: where a line is refused, the words before it are written.
 pub fn read_into(s: &[u8], words: &mut [u32]) -> ReadReply
-    requires { ⌜ 4096 ≤ length (now words) ⌝ }
+    requires { ⌜ mostFrames ≤ length (now words) ⌝ }
     ensures reply { λ r. ⌜ r ≡ scanned (now (s .entry)) ⌝ }
     ensures contents { λ r. ⌜ now (words .exit) ≡ wordsTo (now (s .entry)) (reached r) ++ drop (reached r) (now (words .entry)) ⌝ }
 {
     let t = digits::digit_values();
     let mut i: usize = 0;
-    while i < 4096 {
+    while i < MOST {
         if s.len() <= 9 * i {
             return ReadReply::Lines(i as u32);
         }
@@ -59,7 +65,7 @@ fn scan(t: &[u64; 256], s: &[u8]) -> ReadReply
     ensures { λ r. ⌜ r ≡ scanned (now (s .entry)) ⌝ }
 {
     let mut i: usize = 0;
-    while i < 4096 {
+    while i < MOST {
         if s.len() <= 9 * i {
             return ReadReply::Lines(i as u32);
         }

@@ -1,17 +1,19 @@
 // Functions that C programs call: the planner's entry, texts, guard lists and verdicts. Equality and the serial order are in crate traceorder:
 // apart from these, so that the judging pass is compiled into one loop here.
 use guards::GuardsReply;
+use guards::Judgement;
 use text::ReadReply;
 ghost use mathlib.Core.Path.{_≡_};
 ghost use lib.ListN.{length};
 ghost use Rattle.text.specs.Text.{readReply, readWords};
 ghost use Rattle.guards.specs.Guards.{guardsRead};
-ghost use Rattle.verdict.specs.Verdict.{declaredReply, inferredReply};
+ghost use Rattle.guards.specs.declared.Judgement.the-variants.{Declared};
+ghost use Rattle.verdict.specs.Verdict.{verdictUnder, inferredReply};
 ghost use Rattle.trace.specs.Trace.{readAnswer, guardsAnswer, kindAnswer, lineAfter, setsAfter};
 ghost use Rattle.answer.specs.Answer.{textJudged};
 
 // The bytes of a verdict line, and the kind where a line buffer has fewer: 80 hexadecimal plus 17.
-const LINE: usize = 33;
+const LINE: usize = line::LINE;
 
 const SHORT: u8 = 145;
 
@@ -58,13 +60,13 @@ pub extern "C" fn trace_guards(list: &[u8]) -> u64
 // The verdict with declared guards.
 #[no_mangle]
 pub extern "C" fn trace_declared(list: &[u8], words: &[u32], line: &mut [u8]) -> u8
-    ensures kind { λ k. ⌜ k ≡ kindAnswer (declaredReply (now (list .entry)) (now (words .entry))) (length (now (line .entry))) ⌝ }
-    ensures contents { λ k. ⌜ now (line .exit) ≡ lineAfter (declaredReply (now (list .entry)) (now (words .entry))) (length (now (words .entry))) (now (line .entry)) ⌝ }
+    ensures kind { λ k. ⌜ k ≡ kindAnswer (verdictUnder Declared (now (list .entry)) (now (words .entry))) (length (now (line .entry))) ⌝ }
+    ensures contents { λ k. ⌜ now (line .exit) ≡ lineAfter (verdictUnder Declared (now (list .entry)) (now (words .entry))) (length (now (words .entry))) (now (line .entry)) ⌝ }
 {
     if line.len() < LINE {
         return SHORT;
     }
-    let r = verdict::declared(list, words);
+    let r = verdict::judge(Judgement::Declared, list, words);
     answer::answer(line, r, (words.len() % 4294967296) as u32)
 }
 

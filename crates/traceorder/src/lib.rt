@@ -2,11 +2,14 @@
 use equal::EqualReply;
 use equal::Side;
 use frame::Refused;
+use guards::Judgement;
 use order::OrderReply;
 ghost use mathlib.Core.Path.{_≡_};
+ghost use mathlib.Core.List.{[]};
 ghost use lib.ListN.{length};
 ghost use Rattle.equal.specs.Equal.{equalReply};
-ghost use Rattle.order.specs.Order.{declaredOrder, declaredOut, inferredOrder, inferredOut};
+ghost use Rattle.guards.specs.declared.Judgement.the-variants.{Declared, Inferred};
+ghost use Rattle.order.specs.Order.{orderUnder, outUnder};
 ghost use Rattle.traceorder.specs.Answers.{packedSide, equalAnswer, orderAnswer};
 
 // A refusal of one side of a comparison as one number.
@@ -44,19 +47,19 @@ fn pack_order(q: OrderReply) -> u64
 // The serial order with declared guards.
 #[no_mangle]
 pub extern "C" fn trace_serial_declared(list: &[u8], words: &[u32], out: &mut [u32]) -> u64
-    ensures reply { λ n. ⌜ n ≡ orderAnswer (declaredOrder (now (list .entry)) (now (words .entry)) (length (now (out .entry)))) ⌝ }
-    ensures contents { λ n. ⌜ now (out .exit) ≡ declaredOut (now (list .entry)) (now (words .entry)) (now (out .entry)) ⌝ }
+    ensures reply { λ n. ⌜ n ≡ orderAnswer (orderUnder Declared (now (list .entry)) (now (words .entry)) (length (now (out .entry)))) ⌝ }
+    ensures contents { λ n. ⌜ now (out .exit) ≡ outUnder Declared (now (list .entry)) (now (words .entry)) (now (out .entry)) ⌝ }
 {
-    let q = order::declared(list, words, out);
+    let q = order::order(Judgement::Declared, list, words, out);
     pack_order(q)
 }
 
 // The serial order with inferred guards.
 #[no_mangle]
 pub extern "C" fn trace_serial_inferred(words: &[u32], out: &mut [u32]) -> u64
-    ensures reply { λ n. ⌜ n ≡ orderAnswer (inferredOrder (now (words .entry)) (length (now (out .entry)))) ⌝ }
-    ensures contents { λ n. ⌜ now (out .exit) ≡ inferredOut (now (words .entry)) (now (out .entry)) ⌝ }
+    ensures reply { λ n. ⌜ n ≡ orderAnswer (orderUnder Inferred [] (now (words .entry)) (length (now (out .entry)))) ⌝ }
+    ensures contents { λ n. ⌜ now (out .exit) ≡ outUnder Inferred [] (now (words .entry)) (now (out .entry)) ⌝ }
 {
-    let r = order::inferred(words, out);
+    let r = order::order(Judgement::Inferred, b"", words, out);
     pack_order(r)
 }

@@ -1,14 +1,22 @@
 // The verdicts of a recording: with declared guards, and with inferred ones.
+use frame::ALL_LOCKS;
 use frame::Refusal;
 use frame::Refused;
+use frame::VARIABLES;
 use guards::GuardsReply;
+use guards::INFERRED;
+use guards::Judgement;
 use reply::Reply;
 use reply::Verdict;
 ghost use mathlib.Core.Path.{_≡_};
 ghost use mathlib.Core.List.{_++_};
 ghost use Prim.Native.Nat.{_≤_};
 ghost use lib.ListN.{length, drop};
-ghost use Rattle.verdict.specs.Verdict.{guardsRefused, declaredReply, inferredReply, inferredSets};
+ghost use Rattle.frame.specs.Limits.{variableCount};
+ghost use Rattle.verdict.specs.Verdict.{guardsRefused, verdictUnder, inferredReply, inferredSets};
+
+// The entries of a table of candidate sets, as a place.
+const VARIABLE_COUNT: u32 = VARIABLES as u32;
 
 // The refusal of a guard list.
 fn guards_refused(q: GuardsReply) -> Reply
@@ -20,55 +28,50 @@ fn guards_refused(q: GuardsReply) -> Reply
     }
 }
 
-pub fn declared(list: &[u8], words: &[u32]) -> Reply
-    ensures { λ r. ⌜ r ≡ declaredReply (now (list .entry)) (now (words .entry)) ⌝ }
+// The verdict by a judgement. Where guards are inferred, the list is not read.
+pub fn judge(j: Judgement, list: &[u8], words: &[u32]) -> Reply
+    ensures { λ r. ⌜ r ≡ verdictUnder j (now (list .entry)) (now (words .entry)) ⌝ }
 {
-    let g = guards::read_guards(list);
+    let g = guards::guards_under(j, list);
     let q = g.reply;
     let GuardsReply::Lines(_) = q else {
         return guards_refused(q);
     };
     let table = g.table;
-    let mut sets = [18446744073709551615u64; 1024];
-    pass::judge_recording(words, &table, &mut sets)
+    let mut sets = [ALL_LOCKS; VARIABLES];
+    let p = pass::judge_recording(words, &table, &mut sets);
+    p.reply
 }
 
-fn copy_sets(from: &[u64; 1024], to: &mut [u64])
-    requires { ⌜ length (now from) ≡ 1024 ⌝ ∗ ⌜ 1024 ≤ length (now to) ⌝ }
-    ensures { λ r. ⌜ now (to .exit) ≡ now (from .entry) ++ drop 1024 (now (to .entry)) ⌝ }
+fn copy_sets(from: &[u64; VARIABLES], to: &mut [u64])
+    requires { ⌜ length (now from) ≡ variableCount ⌝ ∗ ⌜ variableCount ≤ length (now to) ⌝ }
+    ensures { λ r. ⌜ now (to .exit) ≡ now (from .entry) ++ drop variableCount (now (to .entry)) ⌝ }
 {
     let mut i: usize = 0;
-    while i < 1024 {
+    while i < VARIABLES {
         to[i] = from[i];
         i += 1;
     }
 }
 
+// The verdict with inferred guards, and the candidate sets into a lent table.
 pub fn inferred(words: &[u32], sets: &mut [u64]) -> Reply
     ensures reply { λ r. ⌜ r ≡ inferredReply (now (words .entry)) (length (now (sets .entry))) ⌝ }
     ensures contents { λ r. ⌜ now (sets .exit) ≡ inferredSets (now (words .entry)) (now (sets .entry)) ⌝ }
 {
-    let guards = [65u8; 1024];
-    let mut own = [18446744073709551615u64; 1024];
-    let r = pass::judge_recording(words, &guards, &mut own);
+    let guards = [INFERRED; VARIABLES];
+    let mut own = [ALL_LOCKS; VARIABLES];
+    let p = pass::judge_recording(words, &guards, &mut own);
+    let r = p.reply;
     let Reply::Judged(v) = r else {
         return r;
     };
-    if sets.len() < 1024 {
+    if sets.len() < VARIABLES {
         return Reply::Refused(Refused {
             reason: Refusal::SetTable,
-            place: 1024,
+            place: VARIABLE_COUNT,
         });
     }
     copy_sets(&own, sets);
     Reply::Judged(v)
-}
-
-// The reply of the inferred verdict with candidate sets of its own.
-pub fn inferred_reply(words: &[u32]) -> Reply
-    ensures { λ r. ⌜ r ≡ inferredReply (now (words .entry)) 1024 ⌝ }
-{
-    let guards = [65u8; 1024];
-    let mut own = [18446744073709551615u64; 1024];
-    pass::judge_recording(words, &guards, &mut own)
 }

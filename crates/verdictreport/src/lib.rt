@@ -1,6 +1,7 @@
 // The tool's verdict and its answer in words, written into a lent buffer as far as there is room; the reply is the number of bytes written.
 use explain::explain;
 use frame::Refused;
+use guards::Judgement;
 use opening::Opened;
 use output::put_text;
 use phrase::Source;
@@ -10,29 +11,19 @@ ghost use mathlib.Core.Path.{_≡_};
 ghost use lib.ListN.{length};
 ghost use Rattle.output.specs.Output.{behind, written};
 ghost use Rattle.opening.specs.Opening.{opening};
-ghost use Rattle.verdictreport.specs.VerdictReport.{replyUnder, verdictReport, explainReport};
-
-// The reply of the rules.
-fn judge(declared: bool, list: &[u8], words: &[u32]) -> Reply
-    ensures { λ r. ⌜ r ≡ replyUnder declared (now (list .entry)) (now (words .entry)) ⌝ }
-{
-    if declared {
-        return verdict::declared(list, words);
-    }
-    verdict::inferred_reply(words)
-}
+ghost use Rattle.verdictreport.specs.VerdictReport.{verdictReport, explainReport};
 
 // The verdict line.
-pub fn verdict_report(declared: bool, list: &[u8], text: &[u8], out: &mut [u8]) -> usize
-    ensures place { λ r. ⌜ r ≡ behind (length (now (out .entry))) 0 (verdictReport declared (now (list .entry)) (now (text .entry))) ⌝ }
-    ensures contents { λ r. ⌜ now (out .exit) ≡ written (now (out .entry)) 0 (verdictReport declared (now (list .entry)) (now (text .entry))) ⌝ }
+pub fn verdict_report(j: Judgement, list: &[u8], text: &[u8], out: &mut [u8]) -> usize
+    ensures place { λ r. ⌜ r ≡ behind (length (now (out .entry))) 0 (verdictReport j (now (list .entry)) (now (text .entry))) ⌝ }
+    ensures contents { λ r. ⌜ now (out .exit) ≡ written (now (out .entry)) 0 (verdictReport j (now (list .entry)) (now (text .entry))) ⌝ }
 {
-    let mut words = [0u32; 4096];
-    let o = opening::open_recording(declared, list, text, &mut words);
+    let mut words = [0u32; frame::MOST];
+    let o = opening::open_recording(j, list, text, &mut words);
     match o {
         Opened::Frames(n) => {
             let k = n as usize;
-            let r = judge(declared, list, &words[..k]);
+            let r = verdict::judge(j, list, &words[..k]);
             let l = line::verdict_line(r, n);
             put_text(out, 0, &l)
         }
@@ -44,17 +35,17 @@ pub fn verdict_report(declared: bool, list: &[u8], text: &[u8], out: &mut [u8]) 
 }
 
 // The answer in words.
-pub fn explain_report(declared: bool, list: &[u8], text: &[u8], out: &mut [u8]) -> usize
-    ensures place { λ r. ⌜ r ≡ behind (length (now (out .entry))) 0 (explainReport declared (now (list .entry)) (now (text .entry))) ⌝ }
-    ensures contents { λ r. ⌜ now (out .exit) ≡ written (now (out .entry)) 0 (explainReport declared (now (list .entry)) (now (text .entry))) ⌝ }
+pub fn explain_report(j: Judgement, list: &[u8], text: &[u8], out: &mut [u8]) -> usize
+    ensures place { λ r. ⌜ r ≡ behind (length (now (out .entry))) 0 (explainReport j (now (list .entry)) (now (text .entry))) ⌝ }
+    ensures contents { λ r. ⌜ now (out .exit) ≡ written (now (out .entry)) 0 (explainReport j (now (list .entry)) (now (text .entry))) ⌝ }
 {
-    let mut words = [0u32; 4096];
-    let o = opening::open_recording(declared, list, text, &mut words);
+    let mut words = [0u32; frame::MOST];
+    let o = opening::open_recording(j, list, text, &mut words);
     match o {
         Opened::Frames(n) => {
             let k = n as usize;
-            let r = judge(declared, list, &words[..k]);
-            explain(out, 0, Source::Recording, &words[..k], r, n)
+            let q = verdict::judge(j, list, &words[..k]);
+            explain(out, 0, Source::Recording, &words[..k], q, n)
         }
         Opened::Refused(s, x) => explain_refusal(out, 0, s, &words[..0], x),
     }

@@ -8,28 +8,25 @@ use native.Mathlib.Numerals.{add-one}
 use lib.Dec.{eqb}
 use lib.ListN.{length, getD, take, drop, replicate, drop-of-length-le, length-append}
 use lib.Seq.{drop-cons}
+use Rattle.laws.proofs.Written.{Written, written-none, written-more, room}
+use Rattle.frame.specs.Limits.{threadCount, lockCount, variableCount, allLocks}
 use Rattle.frame.specs.Frame.{decodeWord}
-use Rattle.frame.proofs.Laws.{decoded-in-range}
 use Rattle.frame.specs.declared.Frame.{Frame}
 use Rattle.frame.specs.declared.Refusal.{Refusal}
 use Rattle.frame.specs.declared.Decoded.the-variants as decoded
-use Rattle.soundness.specs.Soundness.{State, stateOf, stepped, stepFrame, start}
-use Rattle.soundness.specs.declared.Outcome.the-variants as outcome
+use Rattle.soundness.specs.Soundness.{State, stateOf, start}
 use Rattle.reply.specs.declared.Mark.{Mark}
 use Rattle.reply.specs.declared.Violation.{Violation}
-use Rattle.reply.specs.declared.Verdict.{Verdict}
-use Rattle.reply.specs.declared.Verdict.the-variants as verdict
-use Rattle.instrumented.specs.Rules.{Judging, judgingOf, judged, phaseOf, judgeOperation}
-use Rattle.operation.specs.Operation.{operationOf}
-use Rattle.instrumented.specs.Held.{holding}
-use Rattle.operation.specs.declared.Operation.{Operation}
-use Rattle.reply.specs.declared.Reply.the-variants as reply
-use Rattle.pass.specs.Pass.{judgeFrame, startJudging, fullSets}
-use Rattle.pass.proofs.Onward.{On, on-wrong, on-next}
-use Rattle.pass.proofs.Turn.{Follows, none-held, frame-follows, frame-judged}
+use Rattle.instrumented.specs.Rules.{Judging, judgingOf, phaseOf}
+use Rattle.instrumented.specs.Held.{Follows}
+use Rattle.turn.specs.Turn.{turned, turnedTo}
+use Rattle.turn.specs.declared.Turn.the-variants as turn
+use Rattle.turn.proofs.Held.{none-held}
+use Rattle.turn.proofs.Laws.{turn-passes}
+use Rattle.pass.specs.Pass.{startJudging, fullSets}
+use Rattle.pass.proofs.Onward.{On, on-next}
 use Rattle.serial.specs.Order.{Point, settled}
 use Rattle.serial.specs.Walk.{unitStart, unitIn, walkFrom, walkReply, walkWords}
-use Rattle.serial.proofs.Written.{Written, written-none, written-more, room}
 
 abbrev pub pointOf : List ℕ → List ℕ → List ℕ → List ℕ → List ℕ → Point
 pointOf o d b c s = record { state = stateOf o d; judging = judgingOf b c s }
@@ -49,7 +46,7 @@ pub record WalkInv (words guards out₀ out owners depths hs begins commits sets
   pub written : Written out₀ out at (walkWords guards words) (walkFrom guards words i (pointOf owners depths begins commits sets) (drop i words))
 
 pub walk-begins : (words guards out : List ℕ)
-    → WalkInv words guards out out (replicate 64 0) (replicate 32 0) (replicate 32 0) (replicate 32 0) (replicate 32 0) (replicate 1024 18446744073709551615) 0 0
+    → WalkInv words guards out out (replicate lockCount 0) (replicate threadCount 0) (replicate threadCount 0) (replicate threadCount 0) (replicate threadCount 0) (replicate variableCount allLocks) 0 0
 unfolding start startJudging fullSets
 walk-begins words guards out = record { within = omega arith; follows = none-held; judged-on = record { replies = refl }; written = written-none out (walkWords guards words) }
 
@@ -68,46 +65,36 @@ module _ {words guards out₀ out owners depths hs begins commits sets : List �
     unfolding walkFrom
     walk-bad e = stops (rw (drop-cons words i 0 h, e))
 
-    module _ {f : Frame} (e : decodeWord (getD words i 0) ≡ decoded.Frame f) {n : State} where
-      pub walk-fail : {r : Refusal} → stepFrame f (stateOf owners depths) ≡ stepped (outcome.Bad r) n → Written out₀ out at (walkWords guards words) []
+    module _ {f : Frame} (e : decodeWord (getD words i 0) ≡ decoded.Frame f) {n : State} {k : Judging} where
+      pub walk-refused : {r : Refusal} → turned guards i f (stateOf owners depths) (judgingOf begins commits sets) ≡ turnedTo (turn.Refused r) n k → Written out₀ out at (walkWords guards words) []
       unfolding walkFrom
-      walk-fail g = stops (rw (drop-cons words i 0 h, e, g))
+      walk-refused t = stops (rw (drop-cons words i 0 h, e, t))
 
-      module _ (g : stepFrame f (stateOf owners depths) ≡ stepped outcome.Next n) {o : Operation} (oe : o ≡ operationOf guards (f .action)) {v : Verdict} {k : Judging}
-          (a : judgeOperation i (f .thread) (getD depths (f .thread .0) 0) (getD hs (f .thread .0) 0) o (judgingOf begins commits sets) ≡ judged v k) where
-        walk-judged : judgeFrame guards i f (stateOf owners depths) (judgingOf begins commits sets) ≡ judged v k
-        walk-judged = frame-judged guards depths (inv .follows) (decoded-in-range _ _ e) i (judgingOf begins commits sets) oe a
+      pub walk-wrong : {v : Violation} → turned guards i f (stateOf owners depths) (judgingOf begins commits sets) ≡ turnedTo (turn.Wrong v) n k → Written out₀ out at (walkWords guards words) []
+      unfolding walkFrom
+      walk-wrong t = stops (rw (drop-cons words i 0 h, e, t))
 
-        pub reply-wrong : {x : Violation} → v ≡ verdict.Violated x → walkReply guards words ≡ reply.Judged v
-        reply-wrong q = on-wrong (inv .judged-on) h e g walk-judged q
-
-        pub walk-wrong : {x : Violation} → v ≡ verdict.Violated x → Written out₀ out at (walkWords guards words) []
+      module _ (t : turned guards i f (stateOf owners depths) (judgingOf begins commits sets) ≡ turnedTo turn.Next n k) {m : Mark}
+          (s : m ≡ unitStart (phaseOf (getD depths (f .thread .0) 0) (getD begins (f .thread .0) 0) (getD commits (f .thread .0) 0)) (settled (phaseOf (getD (n .depths) (f .thread .0) 0) 0 (getD (k .commits) (f .thread .0) 0))) i) where
+        here : walkFrom guards words i (pointOf owners depths begins commits sets) (drop i words)
+            ≡ unitIn m words (f .thread) ++ walkFrom guards words (i + 1) (record { state = n; judging = k }) (drop (i + 1) words)
         unfolding walkFrom
-        walk-wrong q = stops (rw (drop-cons words i 0 h, e, g, walk-judged, q))
+        here =
+            let p = turn-passes guards i f (stateOf owners depths) (judgingOf begins commits sets) t in
+            rw (drop-cons words i 0 h, e, p .0, p .1, add-one i, settled-begin (getD (n .depths) (f .thread .0) 0) (getD (k .begins) (f .thread .0) 0) (getD (k .commits) (f .thread .0) 0), ← s)
 
-        module _ (q : v ≡ verdict.Reducible) {hs′ : List ℕ} (u : hs′ ≡ holding v (f .thread .0) o hs) {m : Mark}
-            (s : m ≡ unitStart (phaseOf (getD depths (f .thread .0) 0) (getD begins (f .thread .0) 0) (getD commits (f .thread .0) 0)) (settled (phaseOf (getD (n .depths) (f .thread .0) 0) 0 (getD (k .commits) (f .thread .0) 0))) i) where
-          on : Point
-          on = record { state = n; judging = k }
+        came : Written out₀ out at (walkWords guards words) (unitIn m words (f .thread) ++ walkFrom guards words (i + 1) (record { state = n; judging = k }) (drop (i + 1) words))
+        came = subst (λ (l : List ℕ). Written out₀ out at (walkWords guards words) l) here (inv .written)
 
-          turn : walkFrom guards words i (pointOf owners depths begins commits sets) (drop i words)
-              ≡ unitIn m words (f .thread) ++ walkFrom guards words (i + 1) (record { state = n; judging = k }) (drop (i + 1) words)
-          unfolding walkFrom
-          turn =
-              rw (drop-cons words i 0 h, e, g, walk-judged, q, add-one i, settled-begin (getD (n .depths) (f .thread .0) 0) (getD (k .begins) (f .thread .0) 0) (getD (k .commits) (f .thread .0) 0), ← s)
+        module _ (r : length (walkWords guards words) ≤ length out₀) where
+          pub unit-room : at + length (unitIn m words (f .thread)) ≤ length out
+          unit-room = omega (arith, room came r, length-append (unitIn m words (f .thread)) (walkFrom guards words (i + 1) (record { state = n; judging = k }) (drop (i + 1) words)))
 
-          came : Written out₀ out at (walkWords guards words) (unitIn m words (f .thread) ++ walkFrom guards words (i + 1) (record { state = n; judging = k }) (drop (i + 1) words))
-          came = subst (λ (l : List ℕ). Written out₀ out at (walkWords guards words) l) turn (inv .written)
-
-          module _ (r : length (walkWords guards words) ≤ length out₀) where
-            pub unit-room : at + length (unitIn m words (f .thread)) ≤ length out
-            unit-room = omega (arith, room came r, length-append (unitIn m words (f .thread)) (walkFrom guards words (i + 1) (record { state = n; judging = k }) (drop (i + 1) words)))
-
-            pub walk-writes : {c : ℕ} {out′ : List ℕ} → c ≡ at + length (unitIn m words (f .thread)) → out′ ≡ take at out ++ (unitIn m words (f .thread) ++ drop c out)
-                → WalkInv words guards out₀ out′ (n .owners) (n .depths) hs′ (k .begins) (k .commits) (k .sets) c (i + 1)
-            walk-writes ec eo = record {
-              within = omega arith;
-              follows = frame-follows guards depths (inv .follows) (decoded-in-range _ _ e) g oe q u;
-              judged-on = on-next (inv .judged-on) h e g walk-judged q;
-              written = written-more (unitIn m words (f .thread)) (walkFrom guards words (i + 1) (record { state = n; judging = k }) (drop (i + 1) words)) came r ec eo;
-            }
+          pub walk-writes : {hs′ : List ℕ} → Follows hs′ (n .owners) → {c : ℕ} {out′ : List ℕ} → c ≡ at + length (unitIn m words (f .thread)) → out′ ≡ take at out ++ (unitIn m words (f .thread) ++ drop c out)
+              → WalkInv words guards out₀ out′ (n .owners) (n .depths) hs′ (k .begins) (k .commits) (k .sets) c (i + 1)
+          walk-writes u ec eo = record {
+            within = omega arith;
+            follows = u;
+            judged-on = on-next (inv .judged-on) h e t;
+            written = written-more (unitIn m words (f .thread)) (walkFrom guards words (i + 1) (record { state = n; judging = k }) (drop (i + 1) words)) came r ec eo;
+          }

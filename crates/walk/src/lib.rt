@@ -1,10 +1,14 @@
 // The serial order of a recording, written unit by unit: a walk that copies each unit where it commits.
+use frame::ALL_LOCKS;
 use frame::Decoded;
+use frame::LOCKS;
 use frame::Refused;
+use frame::THREADS;
+use frame::VARIABLES;
 use reply::Reply;
 use reply::Verdict;
 use serial::UnitReply;
-use soundness::Outcome;
+use turn::Turn;
 ghost use mathlib.Core.Path.{_≡_};
 ghost use mathlib.Core.List.{_++_};
 ghost use Prim.Native.Nat.{_≤_};
@@ -14,17 +18,17 @@ ghost use Rattle.soundness.specs.declared.CheckReply.the-variants as check;
 ghost use Rattle.serial.specs.Walk.{walkReply, walkWords};
 
 // The units of a sound recording, each written where the one before stopped. A frame that goes wrong ends the walk.
-pub fn write_order(words: &[u32], guards: &[u8; 1024], out: &mut [u32]) -> Reply
+pub fn write_order(words: &[u32], guards: &[u8; VARIABLES], out: &mut [u32]) -> Reply
     requires { ⌜ checkReply (now words) ≡ check.Sound ⌝ ∗ ⌜ length (walkWords (now guards) (now words)) ≤ length (now out) ⌝ }
     ensures reply { λ r. ⌜ r ≡ walkReply (now (guards .entry)) (now (words .entry)) ⌝ }
     ensures contents { λ r. ⌜ now (out .exit) ≡ walkWords (now (guards .entry)) (now (words .entry)) ++ drop (length (walkWords (now (guards .entry)) (now (words .entry)))) (now (out .entry)) ⌝ }
 {
-    let mut owners = [0u8; 64];
-    let mut depths = [0u8; 32];
-    let mut held = [0u64; 32];
-    let mut begins = [0u32; 32];
-    let mut commits = [0u32; 32];
-    let mut sets = [18446744073709551615u64; 1024];
+    let mut owners = [0u8; LOCKS];
+    let mut depths = [0u8; THREADS];
+    let mut held = [0u64; THREADS];
+    let mut begins = [0u32; THREADS];
+    let mut commits = [0u32; THREADS];
+    let mut sets = [ALL_LOCKS; VARIABLES];
     let mut at: usize = 0;
     let mut i: usize = 0;
     while i < words.len() {
@@ -40,37 +44,46 @@ pub fn write_order(words: &[u32], guards: &[u8; 1024], out: &mut [u32]) -> Reply
         let depth = depths[t];
         let begin = begins[t];
         let commit = commits[t];
-        let o = soundness::step(&mut owners, &mut depths, f);
-        let Outcome::Next = o else {
-            return Reply::Refused(Refused {
-                reason: soundness::outcome_refusal(o),
-                place: i as u32,
-            });
-        };
-        let a = f.action;
-        let op = operation::operation_of(guards, a);
-        let v = judge::judge(
+        let q = turn::judge_frame(
+            guards,
+            &mut owners,
+            &mut depths,
             &mut held,
             &mut begins,
             &mut commits,
             &mut sets,
-            depth,
             i as u32,
-            thread,
-            op,
+            f,
         );
-        let Verdict::Reducible = v else {
-            return Reply::Judged(v);
-        };
-        let start = serial::unit_start(depth, begin, commit, depths[t], commits[t], i as u32);
-        let q = serial::write_at(words, start, thread, out, at);
         match q {
-            UnitReply::Refused(x) => {
-                return Reply::Refused(x);
+            Turn::Refused(r) => {
+                return Reply::Refused(Refused {
+                    reason: r,
+                    place: i as u32,
+                });
             }
-            UnitReply::Behind(next) => {
-                at = next;
-                i += 1;
+            Turn::Wrong(v) => {
+                return Reply::Judged(Verdict::Violated(v));
+            }
+            Turn::Next => {
+                let start = serial::unit_start(
+                    depth,
+                    begin,
+                    commit,
+                    depths[t],
+                    commits[t],
+                    i as u32,
+                );
+                let u = serial::write_at(words, start, thread, out, at);
+                match u {
+                    UnitReply::Refused(x) => {
+                        return Reply::Refused(x);
+                    }
+                    UnitReply::Behind(next) => {
+                        at = next;
+                        i += 1;
+                    }
+                }
             }
         }
     }

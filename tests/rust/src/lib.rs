@@ -1,4 +1,4 @@
-//! Reference checker, written from document 01 alone; clarity comes before speed.
+//! Reference checker, by docs/FORMAT.md alone; clarity comes before speed.
 
 use std::collections::{BTreeMap, BTreeSet, VecDeque};
 

@@ -1,4 +1,4 @@
-//! What `tracetool` prints, written from docs/TOOL.md and document 01 alone.
+//! What `tracetool` prints, by docs/TOOL.md and docs/FORMAT.md alone.
 
 use crate::{
     check_recording, declared_verdict, equal, inferred_verdict, read_guards, read_text,

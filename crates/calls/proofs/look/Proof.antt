@@ -1,12 +1,12 @@
-use Prim.Native.Nat.{_-_, _≤_}
+use Prim.Native.Nat.{_+_, _-_, _≤_}
 use native.Mathlib.Omega.{arith}
-use lib.ListN.{length}
 use borrow.Author.Needs.{needs}
+use Rattle.frame.specs.Limits.{mostFrames}
 use Rattle.calls.proofs.look.Statement.{statement}
 use Rattle.calls.proofs.look.Tie as tie
 
 abbrev Inv-loop : tie.InvT-loop
-Inv-loop options words sets from k₀ k-end k = (k ≤ k-end) × (k-end ≤ 8192)
+Inv-loop options words sets from k₀ k-end k = (k ≤ k-end) × (k-end ≤ mostFrames + mostFrames)
 
 abbrev μ-loop : tie.MeasureT-loop
 μ-loop options words sets from k₀ k-end k = k-end - k

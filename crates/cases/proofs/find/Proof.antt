@@ -1,11 +1,8 @@
 use Prim.Native.Nat.{_-_, _≤_}
-use native.Mathlib.Omega.{arith}
 use lib.ListN.{length}
 use borrow.Author.Needs.{needs}
 use Rattle.cases.proofs.find.Statement.{statement}
 use Rattle.cases.proofs.find.Tie as tie
-use Rattle.cases.proofs.find.Reads as reads
-use Rattle.cases.proofs.find.Lts as lts
 
 abbrev Inv-loop : tie.InvT-loop
 Inv-loop s from b i₀ i = (i ≤ length s) × (from ≤ i)

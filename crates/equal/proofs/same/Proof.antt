@@ -88,13 +88,13 @@ cast-q : tie.Need-cast-q Inv-loop μ-loop
 cast-q c =
     omega (arith, c .before .before .before .find .ensures .within, sound-fits (c .before .before .before .before .before .before .before .before .before .before .before .before .before .before .before .before .args .right .now) (c .before .before .before .before .before .before .before .before .before .before .before .before .before .before .before .before .pre .1))
 
-mark-requires : tie.Need-mark-requires Inv-loop μ-loop
-mark-requires c κs =
+note-last-requires : tie.Need-note-last-requires Inv-loop μ-loop
+note-last-requires c κs =
     decoded-in-range _ _ (sym (c .before .before .before .before .before .before .before .before .before .before .before .decode .ensures) ∙ c .before .before .before .before .before .before .before .before .before .d .given .1) .object
 
 returns-5 : tie.Need-returns-5 Inv-loop μ-loop
 returns-5 c =
-    too-early (c .before .before .before .before .before .before .before .before .before .before .before .before .before .before .before .before .loop .inv) (c .before .before .before .before .before .before .before .before .before .before .before .before .before .before .before .loop-test .taken) (sym (c .before .before .before .before .before .before .before .before .before .before .before .before .before .decode .ensures) ∙ c .before .before .before .before .before .before .before .before .before .before .before .d .given .1) (c .before .before .before .before .before .before .before .find .ensures) (ltb-false _ _ (sym (c .before .mark .ensures .below) ∙ not-true _ (c .if4 .taken)))
+    too-early (c .before .before .before .before .before .before .before .before .before .before .before .before .before .before .before .before .loop .inv) (c .before .before .before .before .before .before .before .before .before .before .before .before .before .before .before .loop-test .taken) (sym (c .before .before .before .before .before .before .before .before .before .before .before .before .before .decode .ensures) ∙ c .before .before .before .before .before .before .before .before .before .before .before .d .given .1) (c .before .before .before .before .before .before .before .find .ensures) (ltb-false _ _ (sym (c .before .note-last .ensures .below) ∙ not-true _ (c .if4 .taken)))
 
 add-next : tie.Need-add-next Inv-loop μ-loop
 add-next c = search needs
@@ -114,7 +114,7 @@ loop-less c = search needs
 
 loop-again : tie.Need-loop-again Inv-loop μ-loop
 loop-again c =
-    go-on (c .before .before .before .before .before .before .before .before .before .before .before .before .before .before .before .before .loop .inv) (c .before .before .before .before .before .before .before .before .before .before .before .before .before .before .before .loop-test .taken) (sym (c .before .before .before .before .before .before .before .before .before .before .before .before .before .decode .ensures) ∙ c .before .before .before .before .before .before .before .before .before .before .before .d .given .1) (c .before .before .before .before .before .before .before .find .ensures) (c .before .before .before .before .before .before .if2 .left) (c .before .before .before .before .if3 .left) (ltb-true _ _ (sym (c .before .mark .ensures .below) ∙ not-false _ (c .if4 .left))) (c .before .mark .ensures .marked)
+    go-on (c .before .before .before .before .before .before .before .before .before .before .before .before .before .before .before .before .loop .inv) (c .before .before .before .before .before .before .before .before .before .before .before .before .before .before .before .loop-test .taken) (sym (c .before .before .before .before .before .before .before .before .before .before .before .before .before .decode .ensures) ∙ c .before .before .before .before .before .before .before .before .before .before .before .d .given .1) (c .before .before .before .before .before .before .before .find .ensures) (c .before .before .before .before .before .before .if2 .left) (c .before .before .before .before .if3 .left) (ltb-true _ _ (sym (c .before .note-last .ensures .below) ∙ not-false _ (c .if4 .left))) (c .before .note-last .ensures .noted)
 
 returns-6 : tie.Need-returns-6 Inv-loop μ-loop
 returns-6 c = walk-end (c .before .before .before .before .before .pre .0) (c .before .loop .inv) (c .loop-test .left)
@@ -145,7 +145,7 @@ same-spec =
     returns-4
     add-q
     cast-q
-    mark-requires
+    note-last-requires
     returns-5
     add-next
     mul-next

@@ -5,16 +5,17 @@ use native.Mathlib.Omega.{arith}
 use borrow.Author.Needs.{needs}
 use borrow.Author.Tests.{eq-eqb, ne-eqb}
 use lib.ListN.{length, length-set}
+use Rattle.frame.specs.Limits.{variableCount, mostFrames}
 use Rattle.guards.specs.Guards.{guardsFrom, guardsRead}
 use Rattle.guards.proofs.Laws.{guards-done, guards-over, guards-turn, names-variable}
 use Rattle.guards.proofs.read_guards.Statement.{statement}
 use Rattle.guards.proofs.read_guards.Tie as tie
 
 abbrev Inv-loop : tie.InvT-loop
-Inv-loop list t table₀ i₀ table i = (i ≤ 4096) × (length table ≡ 1024) × (guardsRead list ≡ guardsFrom (4096 - i) list i table)
+Inv-loop list t table₀ i₀ table i = (i ≤ mostFrames) × (length table ≡ variableCount) × (guardsRead list ≡ guardsFrom (mostFrames - i) list i table)
 
 abbrev μ-loop : tie.MeasureT-loop
-μ-loop list t table₀ i₀ table i = 4096 - i
+μ-loop list t table₀ i₀ table i = mostFrames - i
 
 digit-values-requires : tie.Need-digit-values-requires Inv-loop μ-loop
 digit-values-requires c κs = search needs
@@ -31,7 +32,7 @@ cast-t14 c = search needs
 returns : tie.Need-returns Inv-loop μ-loop
 returns c =
     let l = c .before .before .loop in
-    sym (l .inv .2 ∙ guards-done (c .before .before .before .before .before .args .list .now) (l .i) (l .table) (4096 - l .i) (c .if1 .taken))
+    sym (l .inv .2 ∙ guards-done (c .before .before .before .before .before .args .list .now) (l .i) (l .table) (mostFrames - l .i) (c .if1 .taken))
 
 mul-read-line : tie.Need-mul-read-line Inv-loop μ-loop
 mul-read-line c = search needs
@@ -99,14 +100,14 @@ loop-again c =
 returns-4 : tie.Need-returns-4 Inv-loop μ-loop
 returns-4 c =
     let l = c .before .before .loop in
-    let e : l .i ≡ 4096 = omega arith in
-    sym (l .inv .2 ∙ guards-done (c .before .before .before .before .before .args .list .now) (l .i) (l .table) (4096 - l .i) (omega arith) ∙ rw e)
+    let e : l .i ≡ mostFrames = omega arith in
+    sym (l .inv .2 ∙ guards-done (c .before .before .before .before .before .args .list .now) (l .i) (l .table) (mostFrames - l .i) (omega arith) ∙ rw e)
 
 returns-5 : tie.Need-returns-5 Inv-loop μ-loop
 returns-5 c =
     let l = c .before .before .loop in
-    let e : l .i ≡ 4096 = omega arith in
-    sym (rw e at (l .inv .2) ∙ guards-over (c .before .before .before .before .before .args .list .now) 4096 (l .table) (omega arith))
+    let e : l .i ≡ mostFrames = omega arith in
+    sym (rw e at (l .inv .2) ∙ guards-over (c .before .before .before .before .before .args .list .now) mostFrames (l .table) (omega arith))
 
 pub read-guards-spec : {M : Type 1} → statement M
 read-guards-spec =

@@ -6,15 +6,16 @@ use native.Mathlib.Omega.{arith}
 use borrow.Author.Needs.{needs}
 use lib.ListN.{length, length-set, take, drop}
 use lib.Seq.{take-all}
-use Rattle.frame.proofs.Shared.{copied-next}
+use Rattle.laws.proofs.Lists.{copied-next}
+use Rattle.line.specs.Line.{lineLength}
 use Rattle.line.proofs.put_line.Statement.{statement}
 use Rattle.line.proofs.put_line.Tie as tie
 
 abbrev Inv-loop : tie.InvT-loop
-Inv-loop out₀ l i₀ out i = (i ≤ 33) × (length out ≡ length out₀) × (out ≡ take i l ++ drop i out₀)
+Inv-loop out₀ l i₀ out i = (i ≤ lineLength) × (length out ≡ length out₀) × (out ≡ take i l ++ drop i out₀)
 
 abbrev μ-loop : tie.MeasureT-loop
-μ-loop out₀ l i₀ out i = 33 - i
+μ-loop out₀ l i₀ out i = lineLength - i
 
 loop-holds : tie.Need-loop-holds Inv-loop μ-loop
 loop-holds c = (omega arith, refl, refl)
@@ -42,8 +43,8 @@ same-length c = search needs
 returns : tie.Need-returns Inv-loop μ-loop
 returns c =
     let l = c .before .loop in
-    let e : l .i ≡ 33 = omega arith in
-    rw e at (l .inv .2) ∙ ap (λ (x : List ℕ). x ++ drop 33 (c .before .before .args .out .now)) (take-all 33 (c .before .before .args .t2) (omega arith))
+    let e : l .i ≡ lineLength = omega arith in
+    rw e at (l .inv .2) ∙ ap (λ (x : List ℕ). x ++ drop lineLength (c .before .before .args .out .now)) (take-all lineLength (c .before .before .args .t2) (omega arith))
 
 pub put-line-spec : {M : Type 1} → statement M
 put-line-spec =

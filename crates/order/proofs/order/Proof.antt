@@ -1,165 +1,50 @@
-use mathlib.Core.Path.{sym, _∙_}
-use native.Mathlib.Omega.{arith}
-use Rattle.reply.specs.declared.Verdict.the-variants.{Reducible}
-use Rattle.pass.specs.Pass.{fullSets, judgement}
-use Rattle.pass.proofs.Judgement.{judgement-fits, judgement-sound}
-use Rattle.orderlaws.proofs.Order.{walk-is-order, order-length, closed-open}
-use Rattle.order.proofs.Laws.{says-reducible, says-irreducible, walked, not-reducible, not-reducible-out, still-open, still-open-out, no-room, no-room-out, is-written, is-written-out}
+use mathlib.Core.Path.{sym, ap, _∙_}
+use Rattle.guards.specs.declared.GuardsRead.{GuardsRead}
+use Rattle.order.specs.Order.{orderUnder, outUnder, orderOut}
 use borrow.Author.Needs.{needs}
 use Rattle.order.proofs.order.Statement.{statement}
 use Rattle.order.proofs.order.Tie as tie
 
-judge-recording-requires : tie.Need-judge-recording-requires
-judge-recording-requires c κs = search needs
-
-is-irreducible-requires : tie.Need-is-irreducible-requires
-is-irreducible-requires c κs = search needs
-
-refusal-requires : tie.Need-refusal-requires
-refusal-requires c κs = search needs
-
-returns : tie.Need-returns
-unfolding fullSets
-returns c =
-    let a = c .before .before .before .before .before .before .before .args in
-    let g = a .guards .now in
-    let ws = a .words .now in
-    let j = c .before .before .before .judge-recording .ensures .0 in
-    let t = says-irreducible _ (judgement g fullSets ws .reply) _ j (c .before .before .is-irreducible .ensures) (c .before .if1 .taken) in
-    (c .refusal .ensures ∙ rw j (sym (not-reducible g ws (a .out .now) t)), sym (not-reducible-out g ws (a .out .now) t))
-
-end-marks-requires : tie.Need-end-marks-requires
-unfolding fullSets
-end-marks-requires c κs =
-    let a = c .before .before .before .before .before .before .args in
-    let g = a .guards .now in
-    let ws = a .words .now in
-    let r = says-reducible _ (judgement g fullSets ws .reply) _ (c .before .before .judge-recording .ensures .0) (c .before .is-irreducible .ensures) (c .if1 .left) in
-    judgement-fits g fullSets ws Reducible r
-
-is-irreducible-requires-2 : tie.Need-is-irreducible-requires-2
-is-irreducible-requires-2 c κs = search needs
-
-refusal-requires-2 : tie.Need-refusal-requires-2
-refusal-requires-2 c κs = search needs
-
-returns-2 : tie.Need-returns-2
-unfolding fullSets
-returns-2 c =
-    let a = c .before .before .before .before .before .before .before .before .before .before .args in
-    let g = a .guards .now in
-    let ws = a .words .now in
-    let r = says-reducible _ (judgement g fullSets ws .reply) _ (c .before .before .before .before .before .before .judge-recording .ensures .0) (c .before .before .before .before .before .is-irreducible .ensures) (c .before .before .before .before .if1 .left) in
-    walked g ws _ _ r (c .before .before .before .end-marks .ensures .0) (c .before .before .is-irreducible2 .ensures) (c .before .if2 .taken)
-
-first-open-requires : tie.Need-first-open-requires
-first-open-requires c κs = search needs
-
-enum-known-open : tie.Need-enum-known-open
-enum-known-open c = search needs
-
-returns-3 : tie.Need-returns-3
-unfolding fullSets
-returns-3 c =
-    let a = c .before .before .before .before .before .before .before .before .before .before .before .before .before .args in
-    let g = a .guards .now in
-    let ws = a .words .now in
-    let r = says-reducible _ (judgement g fullSets ws .reply) _ (c .before .before .before .before .before .before .before .before .before .judge-recording .ensures .0) (c .before .before .before .before .before .before .before .before .is-irreducible .ensures) (c .before .before .before .before .before .before .before .if1 .left) in
-    let o = rw (c .before .before .before .before .before .before .end-marks .ensures .1 .0, c .before .before .before .before .before .before .end-marks .ensures .1 .1) at (c .before .before .before .first-open .ensures) in
-    let w = sym o ∙ c .before .«open» .given .1 in
-    (sym (still-open g ws (a .out .now) r _ w), sym (still-open-out g ws (a .out .now) r _ w))
+guards-under-requires : tie.Need-guards-under-requires
+guards-under-requires c κs = search needs
 
 enum-told : tie.Need-enum-told
 enum-told c = search needs
 
-cast-n : tie.Need-cast-n
-unfolding fullSets
-cast-n c =
-    let a = c .before .before .before .before .before .before .before .before .before .before .before .before .args in
-    let g = a .guards .now in
-    let ws = a .words .now in
-    let r = says-reducible _ (judgement g fullSets ws .reply) _ (c .before .before .before .before .before .before .before .before .judge-recording .ensures .0) (c .before .before .before .before .before .before .before .is-irreducible .ensures) (c .before .before .before .before .before .before .if1 .left) in
-    omega (arith, judgement-fits g fullSets ws Reducible r)
+enum-told-2 : tie.Need-enum-told-2
+enum-told-2 c = search needs
 
-returns-4 : tie.Need-returns-4
-unfolding fullSets
-returns-4 c =
-    let a = c .before .before .before .before .before .before .before .before .before .before .before .before .before .args in
-    let g = a .guards .now in
-    let ws = a .words .now in
-    let r = says-reducible _ (judgement g fullSets ws .reply) _ (c .before .before .before .before .before .before .before .before .before .judge-recording .ensures .0) (c .before .before .before .before .before .before .before .before .is-irreducible .ensures) (c .before .before .before .before .before .before .before .if1 .left) in
-    let o = rw (c .before .before .before .before .before .before .end-marks .ensures .1 .0, c .before .before .before .before .before .before .end-marks .ensures .1 .1) at (c .before .before .before .first-open .ensures) in
-    let w = sym o ∙ c .before .enum-told .given .1 in
-    let d = closed-open g ws r w in
-    (sym (no-room g ws (a .out .now) r w (c .if3 .taken)), sym (no-room-out g ws (a .out .now) r w (c .if3 .taken)))
+list-refused-requires : tie.Need-list-refused-requires
+list-refused-requires c κs = search needs
 
-write-order-requires : tie.Need-write-order-requires
-unfolding fullSets
-write-order-requires c κs =
-    let a = c .before .before .before .before .before .before .before .before .before .before .before .before .before .before .args in
-    let g = a .guards .now in
-    let ws = a .words .now in
-    let r = says-reducible _ (judgement g fullSets ws .reply) _ (c .before .before .before .before .before .before .before .before .before .before .judge-recording .ensures .0) (c .before .before .before .before .before .before .before .before .before .is-irreducible .ensures) (c .before .before .before .before .before .before .before .before .if1 .left) in
-    let o = rw (c .before .before .before .before .before .before .before .end-marks .ensures .1 .0, c .before .before .before .before .before .before .before .end-marks .ensures .1 .1) at (c .before .before .before .before .first-open .ensures) in
-    let w = sym o ∙ c .before .before .enum-told .given .1 in
-    let d = closed-open g ws r w in
-    (judgement-sound g fullSets ws Reducible r, rw (walk-is-order g ws r d, order-length g ws r d) (c .before .if3 .left))
+returns : tie.Need-returns
+unfolding orderUnder outUnder
+returns c =
+    let told = c .before .enum-told2 .given .1 in
+    let q = sym (ap (λ (x : GuardsRead). x .reply) (c .before .before .before .guards-under .ensures)) ∙ told in
+    (rw (q, c .list-refused .ensures, told), rw q)
 
-is-irreducible-requires-3 : tie.Need-is-irreducible-requires-3
-is-irreducible-requires-3 c κs = search needs
-
-refusal-requires-3 : tie.Need-refusal-requires-3
-refusal-requires-3 c κs = search needs
+under-guards-requires : tie.Need-under-guards-requires
+under-guards-requires c κs = search needs
 
 same-length : tie.Need-same-length
 same-length c = search needs
 
-returns-5 : tie.Need-returns-5
-unfolding fullSets
-returns-5 c =
-    let a = c .before .before .before .before .before .before .before .before .before .before .before .before .before .before .before .before .before .before .before .before .args in
-    let g = a .guards .now in
-    let ws = a .words .now in
-    let r = says-reducible _ (judgement g fullSets ws .reply) _ (c .before .before .before .before .before .before .before .before .before .before .before .before .before .before .before .before .judge-recording .ensures .0) (c .before .before .before .before .before .before .before .before .before .before .before .before .before .before .before .is-irreducible .ensures) (c .before .before .before .before .before .before .before .before .before .before .before .before .before .before .if1 .left) in
-    walked g ws _ _ r (c .before .before .before .before .before .write-order .ensures .0) (c .before .before .is-irreducible3 .ensures) (c .before .if4 .taken)
-
-same-length-2 : tie.Need-same-length-2
-same-length-2 c = search needs
-
-returns-6 : tie.Need-returns-6
-unfolding fullSets
-returns-6 c =
-    let a = c .before .before .before .before .before .before .before .before .before .before .before .before .before .before .before .before .before .before .before .args in
-    let g = a .guards .now in
-    let ws = a .words .now in
-    let r = says-reducible _ (judgement g fullSets ws .reply) _ (c .before .before .before .before .before .before .before .before .before .before .before .before .before .before .before .judge-recording .ensures .0) (c .before .before .before .before .before .before .before .before .before .before .before .before .before .before .is-irreducible .ensures) (c .before .before .before .before .before .before .before .before .before .before .before .before .before .if1 .left) in
-    let o = rw (c .before .before .before .before .before .before .before .before .before .before .before .before .end-marks .ensures .1 .0, c .before .before .before .before .before .before .before .before .before .before .before .before .end-marks .ensures .1 .1) at (c .before .before .before .before .before .before .before .before .before .first-open .ensures) in
-    let w = sym o ∙ c .before .before .before .before .before .before .before .enum-told .given .1 in
-    let d = closed-open g ws r w in
-    (sym (is-written g ws (a .out .now) r w (c .before .before .before .before .before .before .if3 .left)), rw (walk-is-order g ws r d, order-length g ws r d) at (c .before .before .before .before .write-order .ensures .1) ∙ sym (is-written-out g ws (a .out .now) r w (c .before .before .before .before .before .before .if3 .left)))
+returns-2 : tie.Need-returns-2
+unfolding orderUnder outUnder orderOut
+returns-2 c =
+    let q = sym (ap (λ (x : GuardsRead). x .reply) (c .before .before .before .before .before .before .before .before .guards-under .ensures)) ∙ c .before .before .before .before .before .before .enum-told .given .1 in
+    (rw (q, ← c .before .before .before .before .before .before .before .before .guards-under .ensures) (c .before .before .under-guards .ensures .0), rw (q, ← c .before .before .before .before .before .before .before .before .guards-under .ensures) (c .before .before .under-guards .ensures .1))
 
 pub order-spec : {M : Type 1} → statement M
 order-spec =
     tie.close
     (tie.spec
-    judge-recording-requires
-    is-irreducible-requires
-    refusal-requires
-    returns
-    end-marks-requires
-    is-irreducible-requires-2
-    refusal-requires-2
-    returns-2
-    first-open-requires
-    enum-known-open
-    returns-3
+    guards-under-requires
     enum-told
-    cast-n
-    returns-4
-    write-order-requires
-    is-irreducible-requires-3
-    refusal-requires-3
+    enum-told-2
+    list-refused-requires
+    returns
+    under-guards-requires
     same-length
-    returns-5
-    same-length-2
-    returns-6)
+    returns-2)

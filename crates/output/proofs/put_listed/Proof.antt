@@ -6,6 +6,7 @@ use native.Mathlib.Omega.{arith}
 use native.Mathlib.Numerals.{add-one}
 use borrow.Author.Needs.{needs}
 use lib.ListN.{length}
+use Rattle.frame.specs.Limits.{lockCount}
 use Rattle.output.specs.Output.{listed}
 use Rattle.output.proofs.Laws.{Put, put-none, put-more}
 use Rattle.output.proofs.put_listed.Statement.{statement}
@@ -13,10 +14,10 @@ use Rattle.output.proofs.put_listed.Tie as tie
 
 abbrev Inv-loop : tie.InvT-loop
 Inv-loop out₀ at s p₀ v₀ n₀ out p v n =
-    (n ≤ 64) × (length out ≡ length out₀) × ((b : List ℕ) (q : ℕ) → Put out p (listed (64 - n) n v) b q → Put out₀ at (listed 64 0 s) b q)
+    (n ≤ lockCount) × (length out ≡ length out₀) × ((b : List ℕ) (q : ℕ) → Put out p (listed (lockCount - n) n v) b q → Put out₀ at (listed lockCount 0 s) b q)
 
 abbrev μ-loop : tie.MeasureT-loop
-μ-loop out₀ at s p₀ v₀ n₀ out p v n = 64 - n
+μ-loop out₀ at s p₀ v₀ n₀ out p v n = lockCount - n
 
 loop-holds : tie.Need-loop-holds Inv-loop μ-loop
 loop-holds c = (omega arith, refl, λ b q x. x)
@@ -35,7 +36,7 @@ unfolding listed
 loop-again c =
     let l = c .before .before .before .before .before .loop in
     let a = c .before .before .put-lock .ensures in
-    let e : 64 - l .n ≡ suc (64 - (l .n + 1)) = omega arith in (
+    let e : lockCount - l .n ≡ suc (lockCount - (l .n + 1)) = omega arith in (
       omega arith,
       c .before .before .put-lock .kept .0 ∙ l .inv .1,
       λ b q x. l .inv .2 b q (rw (e, add-one (l .n)) (put-more (record { place = a .0; contents = a .1 }) (rw (add-one (l .n)) at x))),
@@ -48,8 +49,8 @@ returns : tie.Need-returns Inv-loop μ-loop
 unfolding listed
 returns c =
     let l = c .before .loop in
-    let e : 64 - l .n ≡ 0 = omega arith in
-    let none : Put (l .out) (l .p) (listed (64 - l .n) (l .n) (l .v)) (l .out) (l .p) = rw e (put-none (l .out) (l .p)) in
+    let e : lockCount - l .n ≡ 0 = omega arith in
+    let none : Put (l .out) (l .p) (listed (lockCount - l .n) (l .n) (l .v)) (l .out) (l .p) = rw e (put-none (l .out) (l .p)) in
     let x = l .inv .2 (l .out) (l .p) none in
     (x .place, x .contents)
 

@@ -1,4 +1,4 @@
--- One case for each mark; any other byte stands for itself.
+-- One case for each slot; any other byte stands for itself.
 use borrow.Author.Needs.{needs}
 use borrow.Author.Tests.{ne-eqb}
 use Rattle.sentence.specs.Sentence.{piece}

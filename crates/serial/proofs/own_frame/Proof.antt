@@ -1,4 +1,4 @@
-use borrow.Author.Tests.{lt-ltb, le-ltb, eq-eqb, ne-eqb}
+use borrow.Author.Tests.{eq-eqb, ne-eqb}
 use borrow.Author.Needs.{needs}
 use Rattle.serial.proofs.own_frame.Statement.{statement}
 use Rattle.serial.proofs.own_frame.Tie as tie
@@ -21,14 +21,14 @@ enum-told-4 c = search needs
 enum-told-5 : tie.Need-enum-told-5
 enum-told-5 c = search needs
 
-add-t10 : tie.Need-add-t10
-add-t10 c = search needs
+add-t8 : tie.Need-add-t8
+add-t8 c = search needs
 
 enum-told-6 : tie.Need-enum-told-6
 enum-told-6 c = search needs
 
-sub-t13 : tie.Need-sub-t13
-sub-t13 c = search needs
+sub-t11 : tie.Need-sub-t11
+sub-t11 c = search needs
 
 returns-2 : tie.Need-returns-2
 returns-2 c = rw (eq-eqb _ _ (c .before .before .if1 .left), c .enum-told .given .1)
@@ -43,20 +43,13 @@ returns-5 : tie.Need-returns-5
 returns-5 c = rw (eq-eqb _ _ (c .before .before .if1 .left), c .enum-told4 .given .1)
 
 returns-6 : tie.Need-returns-6
-returns-6 c =
-    rw (eq-eqb _ _ (c .before .before .before .if1 .left), c .before .enum-told5 .given .1, lt-ltb _ _ (c .if2 .taken))
+returns-6 c = rw (eq-eqb _ _ (c .before .before .if1 .left), c .enum-told5 .given .1)
 
 returns-7 : tie.Need-returns-7
-returns-7 c =
-    rw (eq-eqb _ _ (c .before .before .before .if1 .left), c .before .enum-told5 .given .1, le-ltb _ _ (c .if2 .left))
+returns-7 c = rw (eq-eqb _ _ (c .before .before .before .if1 .left), c .before .enum-told6 .given .1, c .if2 .taken)
 
 returns-8 : tie.Need-returns-8
-returns-8 c =
-    rw (eq-eqb _ _ (c .before .before .before .if1 .left), c .before .enum-told6 .given .1, eq-eqb _ _ (c .if3 .taken))
-
-returns-9 : tie.Need-returns-9
-returns-9 c =
-    rw (eq-eqb _ _ (c .before .before .before .if1 .left), c .before .enum-told6 .given .1, ne-eqb _ _ (c .if3 .left))
+returns-8 c = rw (eq-eqb _ _ (c .before .before .before .if1 .left), c .before .enum-told6 .given .1)
 
 pub own-frame-spec : {M : Type 1} → statement M
 own-frame-spec =
@@ -68,14 +61,13 @@ own-frame-spec =
     enum-told-3
     enum-told-4
     enum-told-5
-    add-t10
+    add-t8
     enum-told-6
-    sub-t13
+    sub-t11
     returns-2
     returns-3
     returns-4
     returns-5
     returns-6
     returns-7
-    returns-8
-    returns-9)
+    returns-8)

@@ -7,7 +7,7 @@ use mathlib.Core.List.{_++_}
 use lib.ListN.{length, take, drop, take-append-drop}
 use Rattle.serial.specs.declared.UnitReply.the-variants.{Behind}
 use Rattle.serial.specs.Walk.{unitOf}
-use Rattle.serial.proofs.Written.{lent-fits, lent-part}
+use Rattle.laws.proofs.Written.{lent-fits, lent-part}
 use Rattle.serial.proofs.Units.{same-behind}
 use Rattle.serial.proofs.write_at.Statement.{statement}
 use Rattle.serial.proofs.write_at.Tie as tie

@@ -6,7 +6,7 @@ use lib.ListN.{length}
 use borrow.Author.Needs.{needs}
 use Rattle.soundness.proofs.Laws.{sound-fits, sound-not-bad}
 use Rattle.serial.specs.declared.UnitReply.the-variants.{Behind}
-use Rattle.serial.proofs.Written.{written-all, written-whole}
+use Rattle.laws.proofs.Written.{written-all, written-whole}
 use Rattle.serial.proofs.Units.{UnitInv, unit-begins, unit-ends, passes-over, has-room, copies, copies-last}
 use Rattle.serial.proofs.write_unit.Statement.{statement}
 use Rattle.serial.proofs.write_unit.Tie as tie
@@ -53,7 +53,8 @@ add-i : tie.Need-add-i Inv-loop μ-loop
 add-i c = search needs
 
 own-frame-requires : tie.Need-own-frame-requires Inv-loop μ-loop
-own-frame-requires c κs = search needs
+own-frame-requires c κs =
+    omega (arith, c .before .before .before .before .before .before .loop .inv .low, c .before .before .before .before .before .loop-test .taken, sound-fits (c .before .before .before .before .before .before .before .before .before .args .words .now) (c .before .before .before .before .before .before .before .before .before .pre .0))
 
 enum-known-own : tie.Need-enum-known-own Inv-loop μ-loop
 enum-known-own c = search needs

@@ -1,15 +1,18 @@
 -- The lines of the order that is written, or the refusal.
 use mathlib.Core.Path.{sym, _∙_}
-use borrow.Author.Needs.{needs}
+use lib.ListN.{replicate}
 use lib.Seq.{length-take-le}
-use Rattle.serial.specs.Order.{serialWords}
-use Rattle.serialreport.specs.SerialReport.{guardsUnder}
+use Rattle.frame.specs.Limits.{mostFrames}
 use Rattle.serialreport.proofs.Laws.{words-ordered}
+use borrow.Author.Needs.{needs}
 use Rattle.serialreport.proofs.put_order.Statement.{statement}
 use Rattle.serialreport.proofs.put_order.Tie as tie
 
-serial-order-requires : tie.Need-serial-order-requires
-serial-order-requires c κs = search needs
+slice-aggregate-order : tie.Need-slice-aggregate-order
+slice-aggregate-order c = search needs
+
+order-requires : tie.Need-order-requires
+order-requires c κs = search needs
 
 enum-known-q : tie.Need-enum-known-q
 enum-known-q c = search needs
@@ -20,17 +23,17 @@ cast-k c = search needs
 array-share-prefix-serial : tie.Need-array-share-prefix-serial
 array-share-prefix-serial c =
     let g = c .before .before .q .given in
-    let a = c .before .before .before .before .before .before .before .before .before .args in
-    let r = c .before .before .before .before .serial-order in
-    let w = words-ordered (r .result) (g .0 .0) (serialWords (guardsUnder (a .declared) (a .list .now)) (a .words .now)) (r .last .1 .1 .1 .0) (g .1) (r .ensures .1) in
+    let a = c .before .before .before .before .before .before .before .before .before .before .args in
+    let r = c .before .before .before .before .before .order in
+    let w = words-ordered (a .j) (a .list .now) (a .words .now) (replicate mostFrames 0) (r .ensures .0) (r .ensures .1) (g .1) in
     w .0
 
 slice-aggregate-put-words : tie.Need-slice-aggregate-put-words
 slice-aggregate-put-words c =
     let g = c .before .before .before .q .given in
-    let a = c .before .before .before .before .before .before .before .before .before .before .args in
-    let r = c .before .before .before .before .before .serial-order in
-    let w = words-ordered (r .result) (g .0 .0) (serialWords (guardsUnder (a .declared) (a .list .now)) (a .words .now)) (r .last .1 .1 .1 .0) (g .1) (r .ensures .1) in
+    let a = c .before .before .before .before .before .before .before .before .before .before .before .args in
+    let r = c .before .before .before .before .before .before .order in
+    let w = words-ordered (a .j) (a .list .now) (a .words .now) (replicate mostFrames 0) (r .ensures .0) (r .ensures .1) (g .1) in
     sym (length-take-le _ _ (w .0))
 
 put-words-requires : tie.Need-put-words-requires
@@ -48,9 +51,9 @@ same-length c = search needs
 returns : tie.Need-returns
 returns c =
     let g = c .before .before .before .before .before .before .q .given in
-    let a = c .before .before .before .before .before .before .before .before .before .before .before .before .before .args in
-    let r = c .before .before .before .before .before .before .before .before .serial-order in
-    let w = words-ordered (r .result) (g .0 .0) (serialWords (guardsUnder (a .declared) (a .list .now)) (a .words .now)) (r .last .1 .1 .1 .0) (g .1) (r .ensures .1) in
+    let a = c .before .before .before .before .before .before .before .before .before .before .before .before .before .before .args in
+    let r = c .before .before .before .before .before .before .before .before .before .order in
+    let w = words-ordered (a .j) (a .list .now) (a .words .now) (replicate mostFrames 0) (r .ensures .0) (r .ensures .1) (g .1) in
     rw (sym (r .ensures .0) ∙ g .1, ← w .1) (c .before .before .put-words .ensures)
 
 same-length-2 : tie.Need-same-length-2
@@ -58,13 +61,14 @@ same-length-2 c = search needs
 
 returns-2 : tie.Need-returns-2
 returns-2 c =
-    rw (sym (c .before .before .before .before .before .before .before .serial-order .ensures .0) ∙ c .before .before .before .before .before .q2 .given .1) (c .before .before .explain-refusal .ensures)
+    rw (sym (c .before .before .before .before .before .before .before .before .order .ensures .0) ∙ c .before .before .before .before .before .q2 .given .1) (c .before .before .explain-refusal .ensures)
 
 pub put-order-spec : {M : Type 1} → statement M
 put-order-spec =
     tie.close
     (tie.spec
-    serial-order-requires
+    slice-aggregate-order
+    order-requires
     enum-known-q
     cast-k
     array-share-prefix-serial

@@ -7,7 +7,7 @@ use native.Mathlib.Numerals.{add-one}
 use borrow.Author.Needs.{needs}
 use lib.ListN.{length, drop, getD, drop-of-length-le}
 use lib.Seq.{drop-cons}
-use Rattle.line.proofs.Laws.{length-word-line}
+use Rattle.digits.proofs.Writing.{length-word-line}
 use Rattle.output.proofs.Laws.{Put, put-none, put-more}
 use Rattle.serialreport.specs.SerialReport.{linesOf}
 use Rattle.serialreport.proofs.put_words.Statement.{statement}

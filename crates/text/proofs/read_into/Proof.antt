@@ -5,6 +5,7 @@ use mathlib.Core.List.{_++_}
 use native.Mathlib.Omega.{arith}
 use borrow.Author.Needs.{needs}
 use lib.ListN.{length, drop, length-set}
+use Rattle.frame.specs.Limits.{mostFrames}
 use Rattle.text.specs.Text.{scanFrom, wordsTo, wordAt}
 use Rattle.text.proofs.Laws.{scan-done, scan-step, full-reached, words-turn}
 use Rattle.text.proofs.read_into.Statement.{statement}
@@ -12,10 +13,10 @@ use Rattle.text.proofs.read_into.Tie as tie
 
 abbrev Inv-loop : tie.InvT-loop
 Inv-loop s words₀ t i₀ words i =
-    (i ≤ 4096) × (scanFrom 4096 s 0 ≡ scanFrom (4096 - i) s i) × (words ≡ wordsTo s i ++ drop i words₀) × (length words ≡ length words₀)
+    (i ≤ mostFrames) × (scanFrom mostFrames s 0 ≡ scanFrom (mostFrames - i) s i) × (words ≡ wordsTo s i ++ drop i words₀) × (length words ≡ length words₀)
 
 abbrev μ-loop : tie.MeasureT-loop
-μ-loop s words₀ t i₀ words i = 4096 - i
+μ-loop s words₀ t i₀ words i = mostFrames - i
 
 digit-values-requires : tie.Need-digit-values-requires Inv-loop μ-loop
 digit-values-requires c κs = search needs
@@ -36,7 +37,7 @@ same-length c = search needs
 returns : tie.Need-returns Inv-loop μ-loop
 returns c =
     let l = c .before .before .loop in
-    (sym (l .inv .1 ∙ scan-done (c .before .before .before .before .before .before .args .s .now) (l .i) (4096 - l .i) (c .if1 .taken)), l .inv .2)
+    (sym (l .inv .1 ∙ scan-done (c .before .before .before .before .before .before .args .s .now) (l .i) (mostFrames - l .i) (c .if1 .taken)), l .inv .2)
 
 mul-read-line : tie.Need-mul-read-line Inv-loop μ-loop
 mul-read-line c = search needs
@@ -60,7 +61,7 @@ returns-2 : tie.Need-returns-2 Inv-loop μ-loop
 returns-2 c =
     let d = c .before .before .before .before in
     let l = d .before .before .loop in
-    (sym (l .inv .1 ∙ scan-step (d .before .before .before .before .before .before .args .s .now) (l .i) (4096 - l .i) (4096 - (l .i + 1)) (omega arith) (d .if1 .left) ∙ rw (sym (c .before .before .read-line .ensures) ∙ c .enum-told .given .1)), l .inv .2)
+    (sym (l .inv .1 ∙ scan-step (d .before .before .before .before .before .before .args .s .now) (l .i) (mostFrames - l .i) (mostFrames - (l .i + 1)) (omega arith) (d .if1 .left) ∙ rw (sym (c .before .before .read-line .ensures) ∙ c .enum-told .given .1)), l .inv .2)
 
 mul-words : tie.Need-mul-words Inv-loop μ-loop
 mul-words c = search needs
@@ -82,7 +83,7 @@ loop-again c =
     let a = d .before .before .before .before .before .before .before .before .args in
     let e = sym (d .read-line .ensures) ∙ c .before .l .given .1 in (
       omega arith,
-      l .inv .1 ∙ scan-step (a .s .now) (l .i) (4096 - l .i) (4096 - (l .i + 1)) (omega arith) (d .before .before .if1 .left) ∙ rw e,
+      l .inv .1 ∙ scan-step (a .s .now) (l .i) (mostFrames - l .i) (mostFrames - (l .i + 1)) (omega arith) (d .before .before .if1 .left) ∙ rw e,
       rw (l .inv .2) (words-turn (a .s .now) (a .words .now) (l .i) _ (omega arith) (rw e)),
       simp length-set (l .inv .3),
     )
@@ -96,7 +97,7 @@ same-length-3 c = search needs
 returns-3 : tie.Need-returns-3 Inv-loop μ-loop
 returns-3 c =
     let l = c .before .before .loop in
-    let e : l .i ≡ 4096 = omega arith in
+    let e : l .i ≡ mostFrames = omega arith in
     let s = c .before .before .before .before .before .before .args .s .now in
     (c .full .ensures ∙ sym (rw e at (l .inv .1)), rw (c .full .ensures, full-reached s) (rw e at (l .inv .2)))
 

@@ -1,18 +1,19 @@
--- Invariant: scanning the whole text is scanning it from line i on, with 4096 - i lines allowed.
+-- Invariant: scanning the whole text is scanning it from line i on, with mostFrames - i lines allowed.
 use Prim.Native.Nat.{_+_, _-_, _≤_}
 use mathlib.Core.Path.{_≡_, refl, sym, _∙_}
 use native.Mathlib.Omega.{arith}
 use borrow.Author.Needs.{needs}
+use Rattle.frame.specs.Limits.{mostFrames}
 use Rattle.text.specs.Text.{scanFrom}
 use Rattle.text.proofs.Laws.{scan-done, scan-step}
 use Rattle.text.proofs.scan.Statement.{statement}
 use Rattle.text.proofs.scan.Tie as tie
 
 abbrev Inv-loop : tie.InvT-loop
-Inv-loop t s i₀ i = (i ≤ 4096) × (scanFrom 4096 s 0 ≡ scanFrom (4096 - i) s i)
+Inv-loop t s i₀ i = (i ≤ mostFrames) × (scanFrom mostFrames s 0 ≡ scanFrom (mostFrames - i) s i)
 
 abbrev μ-loop : tie.MeasureT-loop
-μ-loop t s i₀ i = 4096 - i
+μ-loop t s i₀ i = mostFrames - i
 
 loop-holds : tie.Need-loop-holds Inv-loop μ-loop
 loop-holds c = (omega arith, refl)
@@ -26,7 +27,7 @@ cast-t8 c = search needs
 returns : tie.Need-returns Inv-loop μ-loop
 returns c =
     let l = c .before .before .loop in
-    sym (l .inv .1 ∙ scan-done (c .before .before .before .before .args .s .now) (l .i) (4096 - l .i) (c .if1 .taken))
+    sym (l .inv .1 ∙ scan-done (c .before .before .before .before .args .s .now) (l .i) (mostFrames - l .i) (c .if1 .taken))
 
 mul-read-line : tie.Need-mul-read-line Inv-loop μ-loop
 mul-read-line c = search needs
@@ -47,7 +48,7 @@ returns-2 : tie.Need-returns-2 Inv-loop μ-loop
 returns-2 c =
     let d = c .before .before .before in
     let l = d .before .before .loop in
-    sym (l .inv .1 ∙ scan-step (d .before .before .before .before .args .s .now) (l .i) (4096 - l .i) (4096 - (l .i + 1)) (omega arith) (d .if1 .left) ∙ rw (sym (c .before .before .read-line .ensures) ∙ c .enum-told2 .given .1))
+    sym (l .inv .1 ∙ scan-step (d .before .before .before .before .args .s .now) (l .i) (mostFrames - l .i) (mostFrames - (l .i + 1)) (omega arith) (d .if1 .left) ∙ rw (sym (c .before .before .read-line .ensures) ∙ c .enum-told2 .given .1))
 
 add-i : tie.Need-add-i Inv-loop μ-loop
 add-i c = search needs
@@ -59,7 +60,7 @@ loop-again : tie.Need-loop-again Inv-loop μ-loop
 loop-again c =
     let d = c .before .before .before in
     let l = d .before .before .loop in
-    (omega arith, l .inv .1 ∙ scan-step (d .before .before .before .before .args .s .now) (l .i) (4096 - l .i) (4096 - (l .i + 1)) (omega arith) (d .if1 .left) ∙ rw (sym (c .before .before .read-line .ensures) ∙ c .enum-told .given .1))
+    (omega arith, l .inv .1 ∙ scan-step (d .before .before .before .before .args .s .now) (l .i) (mostFrames - l .i) (mostFrames - (l .i + 1)) (omega arith) (d .if1 .left) ∙ rw (sym (c .before .before .read-line .ensures) ∙ c .enum-told .given .1))
 
 full-requires : tie.Need-full-requires Inv-loop μ-loop
 full-requires c κs = search needs
@@ -67,7 +68,7 @@ full-requires c κs = search needs
 returns-3 : tie.Need-returns-3 Inv-loop μ-loop
 returns-3 c =
     let l = c .before .before .loop in
-    let e : l .i ≡ 4096 = omega arith in
+    let e : l .i ≡ mostFrames = omega arith in
     c .full .ensures ∙ sym (rw e at (l .inv .1))
 
 pub scan-spec : {M : Type 1} → statement M

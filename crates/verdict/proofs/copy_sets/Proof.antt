@@ -6,15 +6,16 @@ use native.Mathlib.Omega.{arith}
 use borrow.Author.Needs.{needs}
 use lib.ListN.{length, take, drop, length-set}
 use lib.Seq.{take-all}
-use Rattle.frame.proofs.Shared.{copied-next}
+use Rattle.frame.specs.Limits.{variableCount}
+use Rattle.laws.proofs.Lists.{copied-next}
 use Rattle.verdict.proofs.copy_sets.Statement.{statement}
 use Rattle.verdict.proofs.copy_sets.Tie as tie
 
 abbrev Inv-loop : tie.InvT-loop
-Inv-loop from to₀ i₀ to i = (i ≤ 1024) × (to ≡ take i from ++ drop i to₀) × (length to ≡ length to₀)
+Inv-loop from to₀ i₀ to i = (i ≤ variableCount) × (to ≡ take i from ++ drop i to₀) × (length to ≡ length to₀)
 
 abbrev μ-loop : tie.MeasureT-loop
-μ-loop from to₀ i₀ to i = 1024 - i
+μ-loop from to₀ i₀ to i = variableCount - i
 
 loop-holds : tie.Need-loop-holds Inv-loop μ-loop
 loop-holds c = (omega arith, refl, refl)
@@ -51,9 +52,9 @@ returns : tie.Need-returns Inv-loop μ-loop
 returns c =
     let l = c .before .loop in
     let a = c .before .before .args in
-    let e : l .i ≡ 1024 = omega arith in
+    let e : l .i ≡ variableCount = omega arith in
     let p = rw e at (l .inv .1) in
-    rw (take-all 1024 (a .from .now) (omega (arith, c .before .before .pre .0))) at p
+    rw (take-all variableCount (a .from .now) (omega (arith, c .before .before .pre .0))) at p
 
 pub copy-sets-spec : {M : Type 1} → statement M
 copy-sets-spec =

@@ -1,8 +1,8 @@
 use mathlib.Core.Path.{sym, _∙_}
 use lib.ListN.{length}
+use Rattle.guards.specs.Guards.{inferredGuards}
 use Rattle.pass.proofs.Judgement.{judgement-length, judged-left}
 use Rattle.pass.specs.Pass.{fullSets}
-use Rattle.verdict.specs.Verdict.{inferredGuards}
 use Rattle.verdict.proofs.Laws.{refused-reply, refused-sets, short-reply, short-sets, judged-reply, judged-sets}
 use borrow.Author.Needs.{needs}
 use Rattle.verdict.proofs.inferred.Statement.{statement}
@@ -37,7 +37,7 @@ unfolding inferredGuards fullSets
 copy-sets-requires c κs =
     let ws = c .before .before .before .before .before .before .before .before .before .before .before .args .words .now in
     let j = c .before .before .before .before .before .before .judge-recording in
-    let s = j .ensures .1 ∙ judged-left inferredGuards fullSets ws _ (sym (j .ensures .0) ∙ c .before .before .before .before .r .given .1) in
+    let s = j .ensures .1 .1 ∙ judged-left inferredGuards fullSets ws _ (sym (j .ensures .0) ∙ c .before .before .before .before .r .given .1) in
     (rw s (judgement-length inferredGuards fullSets ws), c .before .before .if1 .left)
 
 same-length : tie.Need-same-length
@@ -49,7 +49,7 @@ returns-3 c =
     let a = c .before .before .before .before .before .before .before .before .before .before .before .before .before .before .args in
     let j = c .before .before .before .before .before .before .before .before .before .judge-recording in
     let e = sym (j .ensures .0) ∙ c .before .before .before .before .before .before .before .r .given .1 in
-    let s = j .ensures .1 ∙ judged-left inferredGuards fullSets (a .words .now) _ e in
+    let s = j .ensures .1 .1 ∙ judged-left inferredGuards fullSets (a .words .now) _ e in
     (sym (judged-reply (a .words .now) (a .sets .now) _ e (c .before .before .before .before .before .if1 .left)), c .before .before .copy-sets .ensures ∙ rw s (sym (judged-sets (a .words .now) (a .sets .now) _ e (c .before .before .before .before .before .if1 .left))))
 
 pub inferred-spec : {M : Type 1} → statement M

@@ -4,13 +4,12 @@ use mathlib.Core.Path.{sym, _∙_}
 use native.Mathlib.Omega.{arith}
 use borrow.Author.Needs.{needs}
 use lib.ListN.{length}
+use Rattle.laws.proofs.Written.{written-whole}
 use Rattle.frame.proofs.Laws.{decoded-in-range}
 use Rattle.soundness.proofs.Laws.{sound-fits}
-use Rattle.serial.proofs.Written.{written-whole}
 use Rattle.serial.proofs.Units.{never-refused, same-behind}
-use Rattle.pass.proofs.Onward.{on-end, on-bad, on-fail}
-use Rattle.pass.proofs.Turn.{frame-held}
-use Rattle.walk.proofs.Walks.{WalkInv, walk-begins, walk-done, walk-bad, walk-fail, reply-wrong, walk-wrong, unit-room, walk-writes}
+use Rattle.pass.proofs.Onward.{on-end, on-bad, on-refused, on-wrong}
+use Rattle.walk.proofs.Walks.{WalkInv, walk-begins, walk-done, walk-bad, walk-refused, walk-wrong, unit-room, walk-writes}
 use Rattle.walk.proofs.write_order.Statement.{statement}
 use Rattle.walk.proofs.write_order.Tie as tie
 
@@ -19,8 +18,7 @@ Inv-loop words guards out₀ owners₀ depths₀ held₀ begins₀ commits₀ se
     WalkInv words guards out₀ out owners depths held begins commits sets at i
 
 abbrev μ-loop : tie.MeasureT-loop
-μ-loop words guards out₀ owners₀ depths₀ held₀ begins₀ commits₀ sets₀ at₀ i₀ out owners depths held begins commits sets at i =
-    length words - i
+μ-loop words guards out₀ owners₀ depths₀ held₀ begins₀ commits₀ sets₀ at₀ i₀ out owners depths held begins commits sets at i = length words - i
 
 loop-holds : tie.Need-loop-holds Inv-loop μ-loop
 loop-holds c = walk-begins _ _ _
@@ -43,8 +41,8 @@ enum-told c = search needs
 refusal-of-requires : tie.Need-refusal-of-requires Inv-loop μ-loop
 refusal-of-requires c κs = search needs
 
-cast-t32 : tie.Need-cast-t32 Inv-loop μ-loop
-cast-t32 c =
+cast-t31 : tie.Need-cast-t31 Inv-loop μ-loop
+cast-t31 c =
     omega (arith, c .before .before .before .before .before .loop-test .taken, sound-fits (c .before .before .before .before .before .before .before .before .before .args .words .now) (c .before .before .before .before .before .before .before .before .before .pre .0))
 
 same-length : tie.Need-same-length Inv-loop μ-loop
@@ -60,129 +58,119 @@ cast-t c = search needs
 
 array-read-depth : tie.Need-array-read-depth Inv-loop μ-loop
 array-read-depth c =
-    decoded-in-range _ _ (sym (c .before .before .before .before .before .decode .ensures) ∙ c .before .before .before .d .given .1) .thread
+    let e = sym (c .before .before .before .before .before .decode .ensures) ∙ c .before .before .before .d .given .1 in
+    decoded-in-range _ _ e .thread
 
 mul-begin : tie.Need-mul-begin Inv-loop μ-loop
 mul-begin c = search needs
 
 array-read-begin : tie.Need-array-read-begin Inv-loop μ-loop
 array-read-begin c =
-    decoded-in-range _ _ (sym (c .before .before .before .before .before .decode .ensures) ∙ c .before .before .before .d .given .1) .thread
+    let e = sym (c .before .before .before .before .before .decode .ensures) ∙ c .before .before .before .d .given .1 in
+    decoded-in-range _ _ e .thread
 
 mul-commit : tie.Need-mul-commit Inv-loop μ-loop
 mul-commit c = search needs
 
 array-read-commit : tie.Need-array-read-commit Inv-loop μ-loop
 array-read-commit c =
-    decoded-in-range _ _ (sym (c .before .before .before .before .before .decode .ensures) ∙ c .before .before .before .d .given .1) .thread
+    let e = sym (c .before .before .before .before .before .decode .ensures) ∙ c .before .before .before .d .given .1 in
+    decoded-in-range _ _ e .thread
 
-step-requires : tie.Need-step-requires Inv-loop μ-loop
-step-requires c κs =
-    decoded-in-range _ _ (sym (c .before .before .before .before .before .before .before .decode .ensures) ∙ c .before .before .before .before .before .d .given .1)
+cast-judge-frame : tie.Need-cast-judge-frame Inv-loop μ-loop
+cast-judge-frame c =
+    omega (arith, c .before .before .before .before .before .before .before .before .before .before .before .before .before .loop-test .taken, sound-fits (c .before .before .before .before .before .before .before .before .before .before .before .before .before .before .before .before .before .args .words .now) (c .before .before .before .before .before .before .before .before .before .before .before .before .before .before .before .before .before .pre .0))
+
+judge-frame-requires : tie.Need-judge-frame-requires Inv-loop μ-loop
+judge-frame-requires c κs =
+    let e = sym (c .before .before .before .before .before .before .before .before .before .before .before .decode .ensures) ∙ c .before .before .before .before .before .before .before .before .before .d .given .1 in
+    (decoded-in-range _ _ e, (omega (arith, c .before .before .before .before .before .before .before .before .before .before .before .before .before .loop-test .taken, sound-fits (c .before .before .before .before .before .before .before .before .before .before .before .before .before .before .before .before .before .args .words .now) (c .before .before .before .before .before .before .before .before .before .before .before .before .before .before .before .before .before .pre .0)), c .before .before .before .before .before .before .before .before .before .before .before .before .before .before .loop .inv .follows))
+
+enum-known-q : tie.Need-enum-known-q Inv-loop μ-loop
+enum-known-q c = search needs
+
+cast-t46 : tie.Need-cast-t46 Inv-loop μ-loop
+cast-t46 c =
+    omega (arith, c .before .before .before .before .before .before .before .before .before .before .before .before .before .before .before .before .before .loop-test .taken, sound-fits (c .before .before .before .before .before .before .before .before .before .before .before .before .before .before .before .before .before .before .before .before .before .args .words .now) (c .before .before .before .before .before .before .before .before .before .before .before .before .before .before .before .before .before .before .before .before .before .pre .0))
+
+same-length-2 : tie.Need-same-length-2 Inv-loop μ-loop
+same-length-2 c =
+    c .before .before .before .before .before .before .before .before .before .before .before .before .before .before .before .before .before .before .loop .inv .written .long
+
+returns-2 : tie.Need-returns-2 Inv-loop μ-loop
+returns-2 c =
+    let e = sym (c .before .before .before .before .before .before .before .before .before .before .before .before .before .before .before .decode .ensures) ∙ c .before .before .before .before .before .before .before .before .before .before .before .before .before .d .given .1 in
+    let t = rw (c .before .q .given .1) at (c .before .before .before .judge-frame .ensures .0) in
+    (sym (on-refused (c .before .before .before .before .before .before .before .before .before .before .before .before .before .before .before .before .before .before .loop .inv .judged-on) (c .before .before .before .before .before .before .before .before .before .before .before .before .before .before .before .before .before .loop-test .taken) e t), written-whole (walk-refused (c .before .before .before .before .before .before .before .before .before .before .before .before .before .before .before .before .before .before .loop .inv) (c .before .before .before .before .before .before .before .before .before .before .before .before .before .before .before .before .before .loop-test .taken) e t))
+
+enum-known-q-2 : tie.Need-enum-known-q-2 Inv-loop μ-loop
+enum-known-q-2 c = search needs
+
+same-length-3 : tie.Need-same-length-3 Inv-loop μ-loop
+same-length-3 c =
+    c .before .before .before .before .before .before .before .before .before .before .before .before .before .before .before .before .before .before .loop .inv .written .long
+
+returns-3 : tie.Need-returns-3 Inv-loop μ-loop
+returns-3 c =
+    let e = sym (c .before .before .before .before .before .before .before .before .before .before .before .before .before .before .before .decode .ensures) ∙ c .before .before .before .before .before .before .before .before .before .before .before .before .before .d .given .1 in
+    let t = rw (c .before .q2 .given .1) at (c .before .before .before .judge-frame .ensures .0) in
+    (sym (on-wrong (c .before .before .before .before .before .before .before .before .before .before .before .before .before .before .before .before .before .before .loop .inv .judged-on) (c .before .before .before .before .before .before .before .before .before .before .before .before .before .before .before .before .before .loop-test .taken) e t), written-whole (walk-wrong (c .before .before .before .before .before .before .before .before .before .before .before .before .before .before .before .before .before .before .loop .inv) (c .before .before .before .before .before .before .before .before .before .before .before .before .before .before .before .before .before .loop-test .taken) e t))
 
 enum-told-2 : tie.Need-enum-told-2 Inv-loop μ-loop
 enum-told-2 c = search needs
 
-enum-told-3 : tie.Need-enum-told-3 Inv-loop μ-loop
-enum-told-3 c = search needs
-
-outcome-refusal-requires : tie.Need-outcome-refusal-requires Inv-loop μ-loop
-outcome-refusal-requires c κs = search needs
-
-cast-t44 : tie.Need-cast-t44 Inv-loop μ-loop
-cast-t44 c =
-    omega (arith, c .before .before .before .before .before .before .before .before .before .before .before .before .before .loop-test .taken, sound-fits (c .before .before .before .before .before .before .before .before .before .before .before .before .before .before .before .before .before .args .words .now) (c .before .before .before .before .before .before .before .before .before .before .before .before .before .before .before .before .before .pre .0))
-
-same-length-2 : tie.Need-same-length-2 Inv-loop μ-loop
-same-length-2 c =
-    c .before .before .before .before .before .before .before .before .before .before .before .before .before .before .loop .inv .written .long
-
-returns-2 : tie.Need-returns-2 Inv-loop μ-loop
-returns-2 c =
-    let e = sym (c .before .before .before .before .before .before .before .before .before .before .before .decode .ensures) ∙ c .before .before .before .before .before .before .before .before .before .d .given .1 in
-    let g = rw (c .before .enum-told3 .given .1) at (c .before .before .before .step .ensures) in
-    (rw (c .outcome-refusal .ensures, c .before .enum-told3 .given .1) (sym (on-fail (c .before .before .before .before .before .before .before .before .before .before .before .before .before .before .loop .inv .judged-on) (c .before .before .before .before .before .before .before .before .before .before .before .before .before .loop-test .taken) e g)), written-whole (walk-fail (c .before .before .before .before .before .before .before .before .before .before .before .before .before .before .loop .inv) (c .before .before .before .before .before .before .before .before .before .before .before .before .before .loop-test .taken) e g))
-
-operation-of-requires : tie.Need-operation-of-requires Inv-loop μ-loop
-operation-of-requires c κs =
-    decoded-in-range _ _ (sym (c .before .before .before .before .before .before .before .before .before .before .decode .ensures) ∙ c .before .before .before .before .before .before .before .before .d .given .1) .object
-
-cast-judge : tie.Need-cast-judge Inv-loop μ-loop
-cast-judge c =
-    omega (arith, c .before .before .before .before .before .before .before .before .before .before .before .before .before .before .before .before .before .loop-test .taken, sound-fits (c .before .before .before .before .before .before .before .before .before .before .before .before .before .before .before .before .before .before .before .before .before .args .words .now) (c .before .before .before .before .before .before .before .before .before .before .before .before .before .before .before .before .before .before .before .before .before .pre .0))
-
-judge-requires : tie.Need-judge-requires Inv-loop μ-loop
-judge-requires c κs =
-    let e = sym (c .before .before .before .before .before .before .before .before .before .before .before .before .before .before .before .decode .ensures) ∙ c .before .before .before .before .before .before .before .before .before .before .before .before .before .d .given .1 in
-    let g = rw (c .before .before .before .before .before .enum-told2 .given .1) at (c .before .before .before .before .before .before .before .step .ensures) in
-    (decoded-in-range _ _ e .thread, (omega (arith, c .before .before .before .before .before .before .before .before .before .before .before .before .before .before .before .before .before .loop-test .taken, sound-fits (c .before .before .before .before .before .before .before .before .before .before .before .before .before .before .before .before .before .before .before .before .before .args .words .now) (c .before .before .before .before .before .before .before .before .before .before .before .before .before .before .before .before .before .before .before .before .before .pre .0)), rw (c .before .before .before .before .operation-of .ensures) (frame-held (c .before .before .before .before .before .before .before .before .before .before .before .before .before .before .before .before .before .before .before .before .before .args .guards .now) (c .before .before .before .before .before .before .before .before .before .before .before .before .before .before .before .before .before .before .loop .depths) (c .before .before .before .before .before .before .before .before .before .before .before .before .before .before .before .before .before .before .loop .inv .follows) (decoded-in-range _ _ e) g .fits)))
-
-enum-told-4 : tie.Need-enum-told-4 Inv-loop μ-loop
-enum-told-4 c = search needs
-
-enum-told-5 : tie.Need-enum-told-5 Inv-loop μ-loop
-enum-told-5 c = search needs
-
-same-length-3 : tie.Need-same-length-3 Inv-loop μ-loop
-same-length-3 c =
-    c .before .before .before .before .before .before .before .before .before .before .before .before .before .before .before .before .before .before .before .before .before .loop .inv .written .long
-
-returns-3 : tie.Need-returns-3 Inv-loop μ-loop
-returns-3 c =
-    let e = sym (c .before .before .before .before .before .before .before .before .before .before .before .before .before .before .before .before .before .before .decode .ensures) ∙ c .before .before .before .before .before .before .before .before .before .before .before .before .before .before .before .before .d .given .1 in
-    let g = rw (c .before .before .before .before .before .before .before .before .enum-told2 .given .1) at (c .before .before .before .before .before .before .before .before .before .before .step .ensures) in
-    (sym (reply-wrong (c .before .before .before .before .before .before .before .before .before .before .before .before .before .before .before .before .before .before .before .before .before .loop .inv) (c .before .before .before .before .before .before .before .before .before .before .before .before .before .before .before .before .before .before .before .before .loop-test .taken) e g (c .before .before .before .before .before .before .before .operation-of .ensures) (c .before .before .judge .ensures .0) (c .enum-told5 .given .1)), written-whole (walk-wrong (c .before .before .before .before .before .before .before .before .before .before .before .before .before .before .before .before .before .before .before .before .before .loop .inv) (c .before .before .before .before .before .before .before .before .before .before .before .before .before .before .before .before .before .before .before .before .loop-test .taken) e g (c .before .before .before .before .before .before .before .operation-of .ensures) (c .before .before .judge .ensures .0) (c .enum-told5 .given .1)))
-
 array-read-unit-start : tie.Need-array-read-unit-start Inv-loop μ-loop
 array-read-unit-start c =
-    decoded-in-range _ _ (sym (c .before .before .before .before .before .before .before .before .before .before .before .before .before .before .before .before .before .before .decode .ensures) ∙ c .before .before .before .before .before .before .before .before .before .before .before .before .before .before .before .before .d .given .1) .thread
+    let e = sym (c .before .before .before .before .before .before .before .before .before .before .before .before .before .before .decode .ensures) ∙ c .before .before .before .before .before .before .before .before .before .before .before .before .d .given .1 in
+    decoded-in-range _ _ e .thread
 
 mul-unit-start : tie.Need-mul-unit-start Inv-loop μ-loop
 mul-unit-start c = search needs
 
 array-read-unit-start-2 : tie.Need-array-read-unit-start-2 Inv-loop μ-loop
 array-read-unit-start-2 c =
-    decoded-in-range _ _ (sym (c .before .before .before .before .before .before .before .before .before .before .before .before .before .before .before .before .before .before .decode .ensures) ∙ c .before .before .before .before .before .before .before .before .before .before .before .before .before .before .before .before .d .given .1) .thread
+    let e = sym (c .before .before .before .before .before .before .before .before .before .before .before .before .before .before .decode .ensures) ∙ c .before .before .before .before .before .before .before .before .before .before .before .before .d .given .1 in
+    decoded-in-range _ _ e .thread
 
 cast-unit-start : tie.Need-cast-unit-start Inv-loop μ-loop
 cast-unit-start c =
-    omega (arith, c .before .before .before .before .before .before .before .before .before .before .before .before .before .before .before .before .before .before .before .before .loop-test .taken, sound-fits (c .before .before .before .before .before .before .before .before .before .before .before .before .before .before .before .before .before .before .before .before .before .before .before .before .args .words .now) (c .before .before .before .before .before .before .before .before .before .before .before .before .before .before .before .before .before .before .before .before .before .before .before .before .pre .0))
+    omega (arith, c .before .before .before .before .before .before .before .before .before .before .before .before .before .before .before .before .loop-test .taken, sound-fits (c .before .before .before .before .before .before .before .before .before .before .before .before .before .before .before .before .before .before .before .before .args .words .now) (c .before .before .before .before .before .before .before .before .before .before .before .before .before .before .before .before .before .before .before .before .pre .0))
 
 unit-start-requires : tie.Need-unit-start-requires Inv-loop μ-loop
 unit-start-requires c κs = search needs
 
 write-at-requires : tie.Need-write-at-requires Inv-loop μ-loop
 write-at-requires c κs =
-    let e = sym (c .before .before .before .before .before .before .before .before .before .before .before .before .before .before .before .before .before .before .before .before .decode .ensures) ∙ c .before .before .before .before .before .before .before .before .before .before .before .before .before .before .before .before .before .before .d .given .1 in
-    let g = rw (c .before .before .before .before .before .before .before .before .before .before .enum-told2 .given .1) at (c .before .before .before .before .before .before .before .before .before .before .before .before .step .ensures) in
-    (c .before .before .before .before .before .before .before .before .before .before .before .before .before .before .before .before .before .before .before .before .before .before .before .before .before .before .pre .0, unit-room (c .before .before .before .before .before .before .before .before .before .before .before .before .before .before .before .before .before .before .before .before .before .before .before .loop .inv) (c .before .before .before .before .before .before .before .before .before .before .before .before .before .before .before .before .before .before .before .before .before .before .loop-test .taken) e g (c .before .before .before .before .before .before .before .before .before .operation-of .ensures) (c .before .before .before .before .judge .ensures .0) (c .before .before .enum-told4 .given .1) (c .before .before .before .before .judge .ensures .1) (c .before .unit-start .ensures) (c .before .before .before .before .before .before .before .before .before .before .before .before .before .before .before .before .before .before .before .before .before .before .before .before .before .before .pre .1))
+    let e = sym (c .before .before .before .before .before .before .before .before .before .before .before .before .before .before .before .before .decode .ensures) ∙ c .before .before .before .before .before .before .before .before .before .before .before .before .before .before .d .given .1 in
+    let t = rw (c .before .before .enum-told2 .given .1) at (c .before .before .before .before .judge-frame .ensures .0) in
+    (c .before .before .before .before .before .before .before .before .before .before .before .before .before .before .before .before .before .before .before .before .before .before .pre .0, unit-room (c .before .before .before .before .before .before .before .before .before .before .before .before .before .before .before .before .before .before .before .loop .inv) (c .before .before .before .before .before .before .before .before .before .before .before .before .before .before .before .before .before .before .loop-test .taken) e t (c .before .unit-start .ensures) (c .before .before .before .before .before .before .before .before .before .before .before .before .before .before .before .before .before .before .before .before .before .before .pre .1))
 
-enum-known-q : tie.Need-enum-known-q Inv-loop μ-loop
-enum-known-q c = search needs
+enum-known-u : tie.Need-enum-known-u Inv-loop μ-loop
+enum-known-u c = search needs
 
 same-length-4 : tie.Need-same-length-4 Inv-loop μ-loop
-same-length-4 c = never-refused (sym (c .before .q .given .1) ∙ c .before .before .before .before .before .write-at .ensures .0)
+same-length-4 c = never-refused (sym (c .before .u .given .1) ∙ c .before .before .before .before .before .write-at .ensures .0)
 
 returns-4 : tie.Need-returns-4 Inv-loop μ-loop
-returns-4 c = never-refused (sym (c .before .q .given .1) ∙ c .before .before .before .before .before .write-at .ensures .0)
+returns-4 c = never-refused (sym (c .before .u .given .1) ∙ c .before .before .before .before .before .write-at .ensures .0)
 
-enum-known-q-2 : tie.Need-enum-known-q-2 Inv-loop μ-loop
-enum-known-q-2 c = search needs
+enum-known-u-2 : tie.Need-enum-known-u-2 Inv-loop μ-loop
+enum-known-u-2 c = search needs
 
 add-i : tie.Need-add-i Inv-loop μ-loop
 add-i c =
-    omega (arith, c .before .before .before .before .before .before .before .before .before .before .before .before .before .before .before .before .before .before .before .before .before .before .before .before .before .before .before .before .loop-test .taken, sound-fits (c .before .before .before .before .before .before .before .before .before .before .before .before .before .before .before .before .before .before .before .before .before .before .before .before .before .before .before .before .before .before .before .before .args .words .now) (c .before .before .before .before .before .before .before .before .before .before .before .before .before .before .before .before .before .before .before .before .before .before .before .before .before .before .before .before .before .before .before .before .pre .0))
+    omega (arith, c .before .before .before .before .before .before .before .before .before .before .before .before .before .before .before .before .before .before .before .before .before .before .before .before .loop-test .taken, sound-fits (c .before .before .before .before .before .before .before .before .before .before .before .before .before .before .before .before .before .before .before .before .before .before .before .before .before .before .before .before .args .words .now) (c .before .before .before .before .before .before .before .before .before .before .before .before .before .before .before .before .before .before .before .before .before .before .before .before .before .before .before .before .pre .0))
 
 loop-less : tie.Need-loop-less Inv-loop μ-loop
 loop-less c =
-    omega (arith, c .before .before .before .before .before .before .before .before .before .before .before .before .before .before .before .before .before .before .before .before .before .before .before .before .before .before .before .before .loop-test .taken)
+    omega (arith, c .before .before .before .before .before .before .before .before .before .before .before .before .before .before .before .before .before .before .before .before .before .before .before .before .loop-test .taken)
 
 loop-again : tie.Need-loop-again Inv-loop μ-loop
 loop-again c =
-    let e = sym (c .before .before .before .before .before .before .before .before .before .before .before .before .before .before .before .before .before .before .before .before .before .before .before .before .before .before .decode .ensures) ∙ c .before .before .before .before .before .before .before .before .before .before .before .before .before .before .before .before .before .before .before .before .before .before .before .before .d .given .1 in
-    let g = rw (c .before .before .before .before .before .before .before .before .before .before .before .before .before .before .before .before .enum-told2 .given .1) at (c .before .before .before .before .before .before .before .before .before .before .before .before .before .before .before .before .before .before .step .ensures) in
-    let p = same-behind (sym (c .before .q2 .given .1) ∙ c .before .before .before .before .before .write-at .ensures .0) in
-    walk-writes (c .before .before .before .before .before .before .before .before .before .before .before .before .before .before .before .before .before .before .before .before .before .before .before .before .before .before .before .before .before .loop .inv) (c .before .before .before .before .before .before .before .before .before .before .before .before .before .before .before .before .before .before .before .before .before .before .before .before .before .before .before .before .loop-test .taken) e g (c .before .before .before .before .before .before .before .before .before .before .before .before .before .before .before .operation-of .ensures) (c .before .before .before .before .before .before .before .before .before .before .judge .ensures .0) (c .before .before .before .before .before .before .before .before .enum-told4 .given .1) (c .before .before .before .before .before .before .before .before .before .before .judge .ensures .1) (c .before .before .before .before .before .before .before .unit-start .ensures) (c .before .before .before .before .before .before .before .before .before .before .before .before .before .before .before .before .before .before .before .before .before .before .before .before .before .before .before .before .before .before .before .before .pre .1) p (rw (← p) at (c .before .before .before .before .before .write-at .ensures .1))
+    let e = sym (c .before .before .before .before .before .before .before .before .before .before .before .before .before .before .before .before .before .before .before .before .before .before .decode .ensures) ∙ c .before .before .before .before .before .before .before .before .before .before .before .before .before .before .before .before .before .before .before .before .d .given .1 in
+    let q = c .before .before .before .before .before .before .before .before .enum-told2 .given .1 in
+    let p = same-behind (sym (c .before .u2 .given .1) ∙ c .before .before .before .before .before .write-at .ensures .0) in
+    walk-writes (c .before .before .before .before .before .before .before .before .before .before .before .before .before .before .before .before .before .before .before .before .before .before .before .before .before .loop .inv) (c .before .before .before .before .before .before .before .before .before .before .before .before .before .before .before .before .before .before .before .before .before .before .before .before .loop-test .taken) e (rw q at (c .before .before .before .before .before .before .before .before .before .before .judge-frame .ensures .0)) (c .before .before .before .before .before .before .before .unit-start .ensures) (c .before .before .before .before .before .before .before .before .before .before .before .before .before .before .before .before .before .before .before .before .before .before .before .before .before .before .before .before .pre .1) (rw q at (c .before .before .before .before .before .before .before .before .before .before .judge-frame .ensures .1)) p (rw (← p) at (c .before .before .before .before .before .write-at .ensures .1))
 
 same-length-5 : tie.Need-same-length-5 Inv-loop μ-loop
 same-length-5 c = c .before .loop .inv .written .long
@@ -204,7 +192,7 @@ write-order-spec =
     enum-known-d
     enum-told
     refusal-of-requires
-    cast-t32
+    cast-t31
     same-length
     returns
     cast-t
@@ -213,30 +201,26 @@ write-order-spec =
     array-read-begin
     mul-commit
     array-read-commit
-    step-requires
-    enum-told-2
-    enum-told-3
-    outcome-refusal-requires
-    cast-t44
+    cast-judge-frame
+    judge-frame-requires
+    enum-known-q
+    cast-t46
     same-length-2
     returns-2
-    operation-of-requires
-    cast-judge
-    judge-requires
-    enum-told-4
-    enum-told-5
+    enum-known-q-2
     same-length-3
     returns-3
+    enum-told-2
     array-read-unit-start
     mul-unit-start
     array-read-unit-start-2
     cast-unit-start
     unit-start-requires
     write-at-requires
-    enum-known-q
+    enum-known-u
     same-length-4
     returns-4
-    enum-known-q-2
+    enum-known-u-2
     add-i
     loop-less
     loop-again

@@ -1,4 +1,4 @@
-//! Compares the archive with the reference checker: literal cases of document 01, then many
+//! Compares the archive with the reference checker: literal cases of docs/FORMAT.md, then many
 //! seeded random cases. Every reply and every lent buffer is compared whole.
 //! Arguments: an optional seed.
 
@@ -238,7 +238,7 @@ impl Literals {
     }
 }
 
-fn bench_recordings(to: &mut Literals) {
+fn worked_recordings(to: &mut Literals) {
     // A
     let a = "05010000 01010000 03010000 02010000 01010000 03010001 02010000 06010000";
     to.inferred(a, "03000401000000030000000000000001", &[(0, 1)]);
@@ -745,7 +745,7 @@ fn main() {
         None => DEFAULT_SEED,
     };
     let mut literals = Literals::default();
-    bench_recordings(&mut literals);
+    worked_recordings(&mut literals);
     hidden_faults(&mut literals);
     frame_boundaries(&mut literals);
     order_of_refusals(&mut literals);

@@ -277,7 +277,7 @@ fn compare(tool: &mut Tool, left: &[u8], right: &[u8]) -> Done {
     tool.expect(&["equal", "left", "right"])
 }
 
-// Recordings of document 01.
+// Recordings of docs/FORMAT.md.
 
 const A: &str = "05010000 01010000 03010000 02010000 01010000 03010001 02010000 06010000";
 const C: &str = "05000000 05010000 01000000 04000000 02000000 01010000 04010000 06000000 \
@@ -453,7 +453,7 @@ fn literals(tool: &mut Tool) -> Done {
     Ok(())
 }
 
-fn bench_recordings(tool: &mut Tool) -> Done {
+fn worked_recordings(tool: &mut Tool) -> Done {
     let fifteen = "05000000 ".repeat(15);
     let sixteen = "05000000 ".repeat(16);
     let recordings = [
@@ -955,7 +955,7 @@ fn test(program: &OsStr, seed: u64) -> Result<usize, String> {
     let random = &mut Random::new(seed);
     help(&mut tool)?;
     literals(&mut tool)?;
-    bench_recordings(&mut tool)?;
+    worked_recordings(&mut tool)?;
     refusals(&mut tool)?;
     bad_use(&mut tool)?;
     lengths(&mut tool)?;

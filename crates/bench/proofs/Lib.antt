@@ -1,2 +1,0 @@
--- Every row holds, by computation.
-pub mod Bench

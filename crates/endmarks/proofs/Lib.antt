@@ -1,2 +1,0 @@
--- Ends: the loop of `end_marks`.
-mod Ends

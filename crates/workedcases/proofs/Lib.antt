@@ -1,0 +1,2 @@
+-- Every row holds, by computation.
+pub mod Cases
