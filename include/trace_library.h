@@ -1,6 +1,6 @@
 /*
- * The parts of the trace check: text, guard lists, and verdicts, equality and serial orders on
- * words.
+ * The parts of the trace check: text read and written, guard lists, verdicts, equality and serial
+ * orders on words, verdict lines read and written.
  *
  * Every pointer must be valid for its length (counted in elements), aligned for its element type
  * and not null even if the length is 0. A buffer that is written must not overlap another.
@@ -9,7 +9,8 @@
  * A uint64_t reply holds the refusal's number in the high 32 bits, 0 if there is none. The low
  * 32 bits hold the refusal's place, or without one the count answered. trace_equal adds to this.
  *
- * trace_equal and the two serial orders are in libtraceorder.a, the others in libtrace.a.
+ * trace_equal and the two serial orders are in libtraceorder.a; trace_write, trace_line_read and
+ * trace_line_write in libtracetext.a; the others in libtrace.a.
  */
 #ifndef TRACE_LIBRARY_H
 #define TRACE_LIBRARY_H
@@ -94,6 +95,37 @@ uint64_t trace_serial_declared(const uint8_t *list, size_t list_len, const uint3
  */
 uint64_t trace_serial_inferred(const uint32_t *words, size_t words_len, uint32_t *out,
                                size_t out_len);
+
+/*
+ * Writes a sound recording as text, a line for each frame, from place on. It need not be
+ * reducible, nor its blocks closed.
+ * Count: the bytes, 9 for each frame; that many are written from place on, all others keep their
+ * contents. No frames are 0 bytes, also where place is text_len.
+ * Refusals in order: 2 words_len is above 4,096 (place 4096); 4 to 10 of the first frame that
+ * fails (place: frame); 19 place is above text_len, or fewer than 9 * words_len bytes stand from
+ * there (place: 9 * words_len). A refusal writes nothing.
+ */
+uint64_t trace_write(const uint32_t *words, size_t words_len, uint8_t *text, size_t text_len,
+                     size_t place);
+
+/*
+ * Reads the fields of a verdict line, as described in trace_check.h: exactly 33 bytes, 32 digits
+ * 0-9 A-F and an LF. Kinds 0x00 to 0x04 and 0x81 to 0xFF read; no other field is tested. An
+ * absent begin or commit is 0xFFFF. Each of the six pointers is to one number.
+ * Reply: 0, and all six are written; or refusal 18 (place 0) for any other line, which leaves them
+ * as they were.
+ */
+uint64_t trace_line_read(const uint8_t *line, size_t line_len, uint8_t *kind, uint16_t *frame,
+                         uint8_t *thread, uint16_t *begin, uint16_t *commit, uint64_t *locks);
+
+/*
+ * Writes a verdict line of these fields. begin and commit are absent where they are 0xFFFF.
+ * Count: 33; exactly the first 33 bytes of line are written.
+ * Refusals in order: 17 line_len is below 33 (place 33); 18 the kind is none of 0x00 to 0x04 and
+ * 0x81 to 0xFF (place 0). A refusal writes nothing.
+ */
+uint64_t trace_line_write(uint8_t kind, uint16_t frame, uint8_t thread, uint16_t begin,
+                          uint16_t commit, uint64_t locks, uint8_t *line, size_t line_len);
 
 #ifdef __cplusplus
 }

@@ -193,6 +193,83 @@ static int orders_to(const char *list, const uint32_t *words, size_t words_len, 
     return good;
 }
 
+/* On success the text is written from place on; bytes outside, or all of them, stay untouched. */
+static int writes_to(const uint32_t *words, size_t words_len, size_t text_len, size_t place,
+                     uint64_t reply, const char *expected)
+{
+    size_t written = reply >> 32 ? 0 : (size_t)reply;
+    uint32_t *lent_words = copy_of(words, words_len * sizeof *words);
+    uint8_t *text = untouched(text_len);
+    uint64_t given = trace_write(lent_words, words_len, text, text_len, place);
+    int good = given == reply;
+    if (words_len > 0)
+        good = good && memcmp(lent_words, words, words_len * sizeof *words) == 0;
+    if (written == 0)
+        good = good && is_untouched(text, text_len);
+    else
+        good = good && is_untouched(text, place) && memcmp(text + place, expected, written) == 0 &&
+               is_untouched(text + place + written, text_len - place - written);
+    free(text);
+    free(lent_words);
+    return good;
+}
+
+struct fields {
+    uint8_t kind;
+    uint16_t frame;
+    uint8_t thread;
+    uint16_t begin, commit;
+    uint64_t locks;
+};
+
+/* No fields: refusal 18 is expected, and the numbers stay untouched. */
+static int line_reads_to(const char *line, size_t line_len, const struct fields *fields)
+{
+    uint8_t *lent_line = copy_of(line, line_len);
+    uint8_t *kind = untouched(sizeof *kind), *thread = untouched(sizeof *thread);
+    uint16_t *frame = untouched(sizeof *frame), *begin = untouched(sizeof *begin);
+    uint16_t *commit = untouched(sizeof *commit);
+    uint64_t *locks = untouched(sizeof *locks);
+    uint64_t reply =
+        trace_line_read(lent_line, line_len, kind, frame, thread, begin, commit, locks);
+    int good;
+    if (fields == NULL)
+        good = reply == REFUSAL(18, 0) && is_untouched(kind, sizeof *kind) &&
+               is_untouched(frame, sizeof *frame) && is_untouched(thread, sizeof *thread) &&
+               is_untouched(begin, sizeof *begin) && is_untouched(commit, sizeof *commit) &&
+               is_untouched(locks, sizeof *locks);
+    else
+        good = reply == 0 && *kind == fields->kind && *frame == fields->frame &&
+               *thread == fields->thread && *begin == fields->begin &&
+               *commit == fields->commit && *locks == fields->locks;
+    if (line_len > 0)
+        good = good && memcmp(lent_line, line, line_len) == 0;
+    free(locks);
+    free(commit);
+    free(begin);
+    free(frame);
+    free(thread);
+    free(kind);
+    free(lent_line);
+    return good;
+}
+
+/* No digits: this refusal is expected, and the line stays untouched. */
+static int line_writes_to(struct fields fields, size_t line_len, uint64_t reply,
+                          const char *digits)
+{
+    uint8_t *line = untouched(line_len);
+    uint64_t given = trace_line_write(fields.kind, fields.frame, fields.thread, fields.begin,
+                                      fields.commit, fields.locks, line, line_len);
+    int good = given == reply;
+    if (digits == NULL)
+        good = good && is_untouched(line, line_len);
+    else
+        good = good && holds_line(line, line_len, digits);
+    free(line);
+    return good;
+}
+
 static const char reducible_0[] = "00000000FFFFFFFF0000000000000000";
 static const char text_a[] = "05010000\n01010000\n03010000\n02010000\n"
                              "01010000\n03010001\n02010000\n06010000\n";
@@ -214,6 +291,65 @@ static const uint32_t begin_alone[] = {0x05000000};
 /* Variable 5 under locks {1,2}, then {2,3}, then {3}. */
 static const uint32_t words_shared[] = {0x01000001, 0x01000002, 0x03000005, 0x02000001,
                                         0x01000003, 0x04000005, 0x02000002, 0x03000005};
+
+static const uint32_t two_frames[] = {0x05000000, 0x06000000};
+static const struct fields fields_a = {3, 4, 1, 0, 3, 1};
+
+/* Texts that are written. */
+static void test_write(void)
+{
+    const char *two_lines = "05000000\n06000000\n";
+    CHECK(writes_to(two_frames, 2, 21, 3, 18, two_lines));
+    CHECK(writes_to(two_frames, 2, 21, 4, REFUSAL(19, 18), NULL));
+    CHECK(writes_to(two_frames, 2, 20, 3, REFUSAL(19, 18), NULL));
+    CHECK(writes_to(two_frames, 0, 5, 5, 0, NULL));
+    CHECK(writes_to(two_frames, 0, 5, 6, REFUSAL(19, 0), NULL));
+    CHECK(writes_to(two_frames, 0, 0, 0, 0, NULL));
+    CHECK(writes_to(two_frames, 0, 0, 1, REFUSAL(19, 0), NULL));
+    CHECK(writes_to(two_frames, 0, 0, SIZE_MAX, REFUSAL(19, 0), NULL));
+    CHECK(writes_to(two_frames, 2, 18, 0, 18, two_lines));
+    CHECK(writes_to(two_frames, 2, 17, 0, REFUSAL(19, 18), NULL));
+    CHECK(writes_to(two_frames, 2, 30, 5, 18, two_lines));
+    CHECK(writes_to(two_frames, 2, 30, SIZE_MAX, REFUSAL(19, 18), NULL));
+    CHECK(writes_to(two_frames, 2, 30, SIZE_MAX - 8, REFUSAL(19, 18), NULL));
+    CHECK(writes_to(two_frames, 2, 30, SIZE_MAX - 17, REFUSAL(19, 18), NULL));
+    CHECK(writes_to(two_frames, 2, 30, SIZE_MAX / 2 + 1, REFUSAL(19, 18), NULL));
+    CHECK(writes_to(words_a, COUNT(words_a), 72, 0, 72, text_a));
+    CHECK(writes_to(begin_alone, 1, 9, 0, 9, "05000000\n"));
+    CHECK(writes_to(words_j, COUNT(words_j), 18, 0, REFUSAL(7, 1), NULL));
+    CHECK(writes_to(words_j, COUNT(words_j), 0, SIZE_MAX, REFUSAL(7, 1), NULL));
+}
+
+/* Verdict lines that are read and written. */
+static void test_lines(void)
+{
+    const char *greatest = "FFFFFFFFFFFFFFFFFFFFFFFFFFFFFFFF\n";
+    const struct fields all_bits = {0xFF, 0xFFFF, 0xFF, 0xFFFF, 0xFFFF, UINT64_MAX};
+    const struct fields with_lock = {0, 0, 0xFF, 0xFFFE, 0, 2};
+    CHECK(line_reads_to("03000401000000030000000000000001\n", 33, &fields_a));
+    CHECK(line_writes_to(fields_a, 33, 33, line_a));
+    CHECK(line_reads_to(greatest, 33, &all_bits));
+    CHECK(line_writes_to(all_bits, 34, 33, greatest));
+    CHECK(line_reads_to("000000FFFFFE00000000000000000002\n", 33, &with_lock));
+    CHECK(line_writes_to(with_lock, 33, 33, "000000FFFFFE00000000000000000002"));
+    CHECK(line_reads_to("03000401000000030000000000000001\n", 32, NULL));
+    CHECK(line_reads_to("03000401000000030000000000000001\n\n", 34, NULL));
+    CHECK(line_reads_to("", 0, NULL));
+    CHECK(line_reads_to("0300040100000003000000000000000a\n", 33, NULL));
+    CHECK(line_reads_to("03000401000000030000000000000001\r", 33, NULL));
+    CHECK(line_reads_to("0300040100000003\n000000000000001\n", 33, NULL));
+    CHECK(line_writes_to(fields_a, 32, REFUSAL(17, 33), NULL));
+    CHECK(line_writes_to(fields_a, 0, REFUSAL(17, 33), NULL));
+    for (unsigned kind = 0; kind <= 0xFF; kind++) {
+        int fits = kind <= 0x04 || kind >= 0x81;
+        const struct fields fields = {(uint8_t)kind, 65535, 255, 65535, 65534, 0};
+        char line[34];
+        snprintf(line, sizeof line, "%02XFFFFFFFFFFFFFE0000000000000000\n", kind);
+        CHECK(line_reads_to(line, 33, fits ? &fields : NULL));
+        CHECK(line_writes_to(fields, 33, fits ? 33 : REFUSAL(18, 0), fits ? line : NULL));
+        CHECK(line_writes_to(fields, 32, REFUSAL(17, 33), NULL));
+    }
+}
 
 /* 4,096 frames, one more, and a byte more. */
 static void test_longest(void)
@@ -248,6 +384,12 @@ static void test_longest(void)
     CHECK(orders_to("", words, MOST, MOST + 1, MOST, words));
     CHECK(orders_to(NULL, words, MOST, MOST - 1, REFUSAL(15, 4096), NULL));
     CHECK(orders_to("", words, MOST + 1, MOST + 1, REFUSAL(2, 4096), NULL));
+    text[9 * MOST - 1] = '\n';
+    CHECK(writes_to(words, MOST, 9 * MOST, 0, 9 * MOST, text));
+    CHECK(writes_to(words, MOST, 9 * MOST + 5, 3, 9 * MOST, text));
+    CHECK(writes_to(words, MOST, 9 * MOST - 1, 0, REFUSAL(19, 36864), NULL));
+    CHECK(writes_to(words, MOST, 9 * MOST, 1, REFUSAL(19, 36864), NULL));
+    CHECK(writes_to(words, MOST + 1, 9 * MOST + 9, 0, REFUSAL(2, 4096), NULL));
     free(text);
     free(words);
 }
@@ -344,6 +486,10 @@ int main(void)
     CHECK(orders_to("", begin_alone, 1, 1, REFUSAL(14, 0), NULL));
     CHECK(orders_to(NULL, words_c, 0, 0, 0, NULL));
     CHECK(orders_to("", words_c, 0, 2, 0, NULL));
+
+    /* trace_write, trace_line_read and trace_line_write */
+    test_write();
+    test_lines();
 
     test_longest();
     if (failures > 0)

@@ -6,5 +6,6 @@ fn main() {
         println!("cargo:rustc-link-search=native={folder}");
         println!("cargo:rerun-if-changed={folder}/libtrace.a");
         println!("cargo:rerun-if-changed={folder}/libtraceorder.a");
+        println!("cargo:rerun-if-changed={folder}/libtracetext.a");
     }
 }

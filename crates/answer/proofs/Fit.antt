@@ -11,7 +11,6 @@ use Rattle.frame.specs.Limits.{variableCount, mostFrames}
 use Rattle.frame.specs.Refusal.{refusalNumber}
 use Rattle.frame.specs.declared.Refused.{Refused}
 use Rattle.frame.specs.declared.Refusal.the-variants as refusal
-use Rattle.digits.specs.Digits.{tooWide}
 use Rattle.text.specs.Text.{scanned, reached, wordsTo}
 use Rattle.text.specs.declared.ReadReply.{ReadReply}
 use Rattle.text.specs.declared.ReadReply.the-variants as read
@@ -30,20 +29,20 @@ use Rattle.reply.specs.declared.Verdict.the-variants as verdict
 use Rattle.pass.specs.Pass.{fullSets, judgement}
 use Rattle.pass.proofs.Judgement.{judgement-fits}
 use Rattle.pass.proofs.Places.{MarkUpTo, ReplyBelow, judgement-places}
-use Rattle.line.specs.Line.{markField, bareFields, replyFields, placeWidth}
+use Rattle.line.specs.Line.{lineMark, MarkTold, bareFields, replyFields, placeWidth}
 use Rattle.answer.specs.Answer.{onRead, textJudged, PlacesFit, RepliesFit}
 
 -- the places of a reply's line are held whole
 abbrev Fit : Reply → ℕ → Type 0
 Fit r n = PlacesFit (replyFields r n)
 
-mark-fit : (m : Mark) (i : ℕ) → i < mostFrames → MarkUpTo i m → markField m < tooWide placeWidth
+mark-fit : (m : Mark) (i : ℕ) → i < mostFrames → MarkUpTo i m → MarkTold placeWidth (lineMark m)
 mark-fit (mark.At k) i h b = omega arith
-mark-fit mark.Absent i h b = omega arith
+mark-fit mark.Absent i h b = tt
 
 -- fields of a place alone
 bare-fit : (k p : ℕ) → p ≤ mostFrames → PlacesFit (bareFields k p)
-bare-fit k p h = record { frame = omega arith; begin = omega arith; commit = omega arith }
+bare-fit k p h = record { frame = omega arith; begin = tt; commit = tt }
 
 refused-fit : (x : Refused) (n : ℕ) → x .place ≤ mostFrames → Fit (reply.Refused x) n
 refused-fit x n h = bare-fit (128 + refusalNumber (x .reason)) (x .place) h

@@ -14,7 +14,7 @@ use Rattle.text.specs.declared.ReadReply.{ReadReply}
 use Rattle.text.specs.declared.ReadReply.the-variants as read
 use Rattle.reply.specs.declared.Reply.{Reply}
 use Rattle.reply.specs.declared.Reply.the-variants as reply
-use Rattle.line.specs.Line.{placeWidth, replyFields}
+use Rattle.line.specs.Line.{placeWidth, MarkTold, replyFields}
 use Rattle.line.specs.declared.Fields.{Fields}
 use Rattle.verdict.specs.Verdict.{verdictUnder, inferredReply}
 use Rattle.answer.specs.declared.TextJudged.{TextJudged}
@@ -40,11 +40,11 @@ textJudged s = onRead (scanned s) s
 abbrev pub FirstBytesDecideAnswers : Type 0
 FirstBytesDecideAnswers = (s : List ℕ) → textJudged (take (mostBytes + 1) s) ≡ textJudged s
 
--- The places of a reply are held whole by its line.
+-- The places of a reply are told by its line.
 pub record PlacesFit (f : Fields) : Type 0 where
   pub frame : f .frame < tooWide placeWidth
-  pub begin : f .begin < tooWide placeWidth
-  pub commit : f .commit < tooWide placeWidth
+  pub begin : MarkTold placeWidth (f .begin)
+  pub commit : MarkTold placeWidth (f .commit)
 
 -- Every reply of the verdicts is so, whatever is handed in: the line loses no digit of it.
 abbrev pub RepliesFit : Type 0

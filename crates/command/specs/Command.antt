@@ -23,7 +23,8 @@ commandOf w =
     cond (same w (bytes "verdict")) command.Verdict
     (cond (same w (bytes "serial")) command.Serial
     (cond (same w (bytes "explain")) command.Explain
-    (cond (same w (bytes "equal")) command.Equal command.Unknown)))
+    (cond (same w (bytes "equal")) command.Equal
+    (cond (same w (bytes "line")) command.Line command.Unknown))))
 
 -- "RECORDING [--guards LIST]": n words in all, the program's name and the command among them.
 unfoldable pub judging : Command → ℕ → List ℕ → Request
@@ -36,6 +37,7 @@ requested command.Verdict n option = judging command.Verdict n option
 requested command.Serial n option = judging command.Serial n option
 requested command.Explain n option = judging command.Explain n option
 requested command.Equal n option = cond (eqb n 4) request.Compare (request.Misused command.Equal)
+requested command.Line n option = cond (eqb n 3) request.Line (request.Misused command.Line)
 requested command.Unknown n option = request.Unknown
 
 -- Of n words, the command and the word in the place of "--guards".

@@ -9,16 +9,18 @@ pub enum Command {
     Serial,
     Explain,
     Equal,
+    Line,
     Unknown,
 }
 
-// Help, no such command, a command with the wrong words, a judgement, or a comparison.
+// Help, no such command, a command with the wrong words, a judgement, a comparison, or a kept line.
 pub enum Request {
     Help,
     Unknown,
     Misused(Command),
     Judge(Command, Judgement),
     Compare,
+    Line,
 }
 
 // Whether two texts are the same.
@@ -52,6 +54,9 @@ pub fn command_of(word: &[u8]) -> Command
     }
     if same(word, b"equal") {
         return Command::Equal;
+    }
+    if same(word, b"line") {
+        return Command::Line;
     }
     Command::Unknown
 }
@@ -88,6 +93,12 @@ pub fn request_of(n: usize, word: &[u8], option: &[u8]) -> Request
                 return Request::Compare;
             }
             Request::Misused(Command::Equal)
+        }
+        Command::Line => {
+            if n == 3 {
+                return Request::Line;
+            }
+            Request::Misused(Command::Line)
         }
         Command::Unknown => Request::Unknown,
     }

@@ -43,6 +43,7 @@ fn help() {
        tracetool serial RECORDING [--guards LIST]    the serial order as lines
        tracetool equal LEFT RIGHT                    equal, or not equal
        tracetool explain RECORDING [--guards LIST]   the answer in words
+       tracetool line LINE                           a kept verdict line in words
 Guards are inferred without --guards, and declared with it. The first word printed says how it went.
 ",
     );
@@ -54,6 +55,7 @@ fn misused(c: Command, word: &[u8]) {
     print(word);
     match c {
         Command::Equal => print(b" LEFT RIGHT\n"),
+        Command::Line => print(b" LINE\n"),
         _ => print(b" RECORDING [--guards LIST]\n"),
     }
 }

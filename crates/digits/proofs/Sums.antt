@@ -53,15 +53,20 @@ value-bound b = go (ltb 15 (digitOf b)) refl
 pub value-fits : (b d : ℕ) → d ≡ valueOf b → d ≤ 4294967296
 value-fits b d e = rw e (value-bound b)
 
+-- the bytes of a field of n digits from its k-th on: the first of them, and the others
+pub next-byte : (s : List ℕ) (at n k : ℕ) → k < n → at + n ≤ length s
+    → take (n - k) (drop (at + k) s) ≡ getD s (at + k) 0 ∷ take (n - (k + 1)) (drop (at + (k + 1)) s)
+next-byte s at n k more fits =
+    let h : at + k < length s = omega arith in
+    let w : n - k ≡ suc (n - (k + 1)) = omega arith in
+    let m : suc (at + k) ≡ at + (k + 1) = omega arith in
+    rw (w, drop-cons s (at + k) 0 h, m)
+
 -- one byte of a field: the next place, with the sum so far
 pub sum-turn : (s : List ℕ) (at v k d : ℕ) → k < 8 → at + 8 ≤ length s → d ≡ valueOf (getD s (at + k) 0)
     → sumFrom v (take (8 - k) (drop (at + k) s)) ≡ sumFrom (v * 16 + d) (take (8 - (k + 1)) (drop (at + (k + 1)) s))
 unfolding sumFrom
-sum-turn s at v k d more fits is =
-    let h : at + k < length s = omega arith in
-    let w : 8 - k ≡ suc (8 - (k + 1)) = omega arith in
-    let n : suc (at + k) ≡ at + (k + 1) = omega arith in
-    rw (w, drop-cons s (at + k) 0 h, n, is)
+sum-turn s at v k d more fits is = rw (next-byte s at 8 k more fits, is)
 
 pub sum-end : (s : List ℕ) (n v : ℕ) → sumFrom v (take 0 (drop n s)) ≡ v
 unfolding sumFrom

@@ -1,9 +1,9 @@
 -- What digits and a line of eight of them say, and how they are written. In this order: digits read, the values that the code adds up, one
--- line read; digits written, one line written; the claims that reading and writing undo each other, over any number of digits.
+-- line read; digits written, lines written; the claims that reading and writing undo each other, over any number of digits.
 -- Quotes are from docs/FORMAT.md.
-use Prim.Native.Nat.{ℕ, zero, suc, _+_, _-_, _*_, _/_, _%_, _^_, _<_}
+use Prim.Native.Nat.{ℕ, zero, suc, _+_, _-_, _*_, _/_, _%_, _^_, _≤_, _<_}
 use mathlib.Core.Path.{_≡_}
-use mathlib.Core.Bool.{cond}
+use mathlib.Core.Bool.{Bool, true, false, cond}
 use mathlib.Core.List.{List, [], _∷_, _++_}
 use lib.ListN.{length, getD, take, drop}
 use lib.Dec.{ltb, eqb}
@@ -14,6 +14,10 @@ use Rattle.digits.specs.declared.Line.the-variants as line
 unfoldable pub digitOf : ℕ → ℕ
 digitOf b = cond (ltb b 48) 16 (cond (ltb b 58) (b - 48) (cond (ltb b 65) 16 (cond (ltb b 71) (b - 55) 16)))
 
+-- The same of the digits A-F alone.
+unfoldable pub letterOf : ℕ → ℕ
+letterOf b = cond (ltb b 65) 16 (cond (ltb b 71) (b - 55) 16)
+
 -- The value of some digits, or that one of them is none.
 pub data Digits : Type 0 where
   value : ℕ → Digits
@@ -23,6 +27,29 @@ pub data Digits : Type 0 where
 unfoldable pub digitsValue : ℕ → List ℕ → Digits
 digitsValue v [] = value v
 digitsValue v (b ∷ bs) = cond (ltb 15 (digitOf b)) none (digitsValue (v * 16 + digitOf b) bs)
+
+-- Whether all bytes are digits.
+unfoldable pub allDigits : List ℕ → Bool
+allDigits [] = true
+allDigits (b ∷ bs) = cond (ltb 15 (digitOf b)) false (allDigits bs)
+
+-- The values of bytes as digits, and how many of the bytes are none.
+unfoldable pub valuesOf : List ℕ → List ℕ
+valuesOf [] = []
+valuesOf (b ∷ bs) = digitOf b ∷ valuesOf bs
+
+unfoldable pub others : List ℕ → ℕ
+others [] = 0
+others (b ∷ bs) = digitOf b / 16 + others bs
+
+-- The number that values of digits make, behind the number v, top digit first.
+unfoldable pub joined : ℕ → List ℕ → ℕ
+joined v [] = v
+joined v (d ∷ ds) = joined (v * 16 + d) ds
+
+-- Values of digits alone.
+unfoldable pub DigitValues : List ℕ → Type 0
+DigitValues ds = (k : ℕ) → getD ds k 0 ≤ 15
 
 -- The value of a byte as a digit, and 2^32 where it is none.
 unfoldable pub valueOf : ℕ → ℕ
@@ -62,6 +89,11 @@ pasted s at n xs = take at s ++ (xs ++ drop (at + n) s)
 -- "On a line it is eight digits 0-9 A-F, top digit first, then one LF": the line of a word.
 unfoldable pub wordLine : ℕ → List ℕ
 wordLine w = digits 8 w ++ (10 ∷ [])
+
+-- "A recording's text is its lines, in order, and nothing else": words as lines.
+unfoldable pub linesOf : List ℕ → List ℕ
+linesOf [] = []
+linesOf (w ∷ ws) = wordLine w ++ linesOf ws
 
 -- The least number that n digits cannot hold.
 abbrev pub tooWide : ℕ → ℕ

@@ -2,7 +2,7 @@
 ghost use mathlib.Core.Path.{_≡_};
 ghost use Prim.Native.Nat.{_+_, _*_, _≤_, _<_};
 ghost use lib.ListN.{length, take, drop};
-ghost use Rattle.digits.specs.Digits.{Values, valueOf, digitsValue, lineOf, digitsOfSum, byteOf, digits, pasted, wordLine};
+ghost use Rattle.digits.specs.Digits.{Values, valueOf, letterOf, digitOf, others, valuesOf, joined, DigitValues, digitsValue, lineOf, digitsOfSum, byteOf, digits, pasted, wordLine, tooWide};
 
 // The word of a line, or that the line is not eight digits and an LF.
 pub enum Line {
@@ -71,6 +71,67 @@ pub fn read_line(t: &[u64; 256], s: &[u8], at: usize) -> Line
         return Line::Malformed;
     }
     Line::Word(v as u32)
+}
+
+// The value of a byte as one of the digits A-F, and 16 where it is none: its distance from A, counted round.
+fn letter_of(b: u8) -> u8
+    ensures { λ r. ⌜ r ≡ letterOf b ⌝ }
+{
+    let from = ((b as u32 + 191) % 256) as u8;
+    if from < 6 {
+        return from + 10;
+    }
+    16
+}
+
+// The value of a byte as a digit, and 16 where it is none. Each test chooses between two numbers, so that nothing is to be predicted.
+fn digit_of(b: u8) -> u8
+    ensures { λ r. ⌜ r ≡ digitOf b ⌝ }
+{
+    let letter = letter_of(b);
+    let from = ((b as u32 + 208) % 256) as u8;
+    if from < 10 {
+        return from;
+    }
+    letter
+}
+
+// The values of the first bytes of a text as digits, as many as out has. The reply is how many of them are none.
+pub fn digit_list(s: &[u8], out: &mut [u8]) -> u8
+    requires { ⌜ length (now out) ≤ length (now s) ⌝ ∗ ⌜ length (now out) ≤ 255 ⌝ }
+    ensures count { λ r. ⌜ r ≡ others (take (length (now (out .entry))) (now (s .entry))) ⌝ }
+    ensures contents { λ r. ⌜ now (out .exit) ≡ valuesOf (take (length (now (out .entry))) (now (s .entry))) ⌝ }
+{
+    let mut count: u8 = 0;
+    let mut k: usize = 0;
+    while k < out.len() {
+        let d = digit_of(s[k]);
+        out[k] = d;
+        count += d / 16;
+        k += 1;
+    }
+    count
+}
+
+// The number that up to 16 values of digits make.
+pub fn join(d: &[u8], at: usize, width: usize) -> u64
+    requires { ⌜ at + width ≤ length (now d) ⌝ ∗ ⌜ width ≤ 16 ⌝ ∗ ⌜ DigitValues (now d) ⌝ }
+    ensures number { λ r. ⌜ r ≡ joined 0 (take width (drop at (now (d .entry)))) ⌝ }
+    ensures within { λ r. ⌜ r < tooWide width ⌝ }
+{
+    let mut v: u64 = 0;
+    let mut k: usize = 0;
+    while k < width {
+        v = v * 16 + wide(d[at + k]);
+        k += 1;
+    }
+    v
+}
+
+fn wide(x: u8) -> u64
+    ensures { λ r. ⌜ r ≡ x ⌝ }
+{
+    x as u64
 }
 
 // The digit of a value below 16.

@@ -118,7 +118,7 @@ pub decode-encode : (f : Frame) → InRange f → decodeWord (encodeFrame f) ≡
 decode-encode f g = decode-parts (f .thread .0) (f .action) (g .thread) (g .object)
 
 -- Every refusal's number is at most 17.
-pub number-small : (r : Refusal) → refusalNumber r ≤ 17
+pub number-small : (r : Refusal) → refusalNumber r ≤ 19
 number-small refusal.Line = omega arith
 number-small refusal.TooLong = omega arith
 number-small refusal.WordBuffer = omega arith
@@ -136,3 +136,5 @@ number-small refusal.OpenBlock = omega arith
 number-small refusal.OutputBuffer = omega arith
 number-small refusal.SetTable = omega arith
 number-small refusal.LineBuffer = omega arith
+number-small refusal.VerdictLine = omega arith
+number-small refusal.TextBuffer = omega arith

@@ -22,6 +22,8 @@ refusalNumber refusal.OpenBlock = 14
 refusalNumber refusal.OutputBuffer = 15
 refusalNumber refusal.SetTable = 16
 refusalNumber refusal.LineBuffer = 17
+refusalNumber refusal.VerdictLine = 18
+refusalNumber refusal.TextBuffer = 19
 
 -- "A refusal is its number and place."
 abbrev pub refusedAt : Refusal → ℕ → Refused

@@ -68,6 +68,8 @@ pub enum Refusal {
     OutputBuffer,
     SetTable,
     LineBuffer,
+    VerdictLine,
+    TextBuffer,
 }
 
 pub struct Refused {
@@ -195,5 +197,7 @@ pub fn refusal_number(r: Refusal) -> u8
         Refusal::OutputBuffer => 15,
         Refusal::SetTable => 16,
         Refusal::LineBuffer => 17,
+        Refusal::VerdictLine => 18,
+        Refusal::TextBuffer => 19,
     }
 }

@@ -8,71 +8,101 @@ ghost use mathlib.Core.Path.{_≡_};
 ghost use mathlib.Core.List.{_++_};
 ghost use Prim.Native.Nat.{_≤_};
 ghost use lib.ListN.{length, drop};
-ghost use Rattle.line.specs.Line.{markField, bareFields, replyFields, lineLength, fieldsLine, verdictLine};
+ghost use Rattle.line.specs.Line.{placeWidth, markField, lineMark, bareFields, replyFields, heldPlace, heldMark, heldFields, lineLength, fieldsLine, verdictLine};
 
 // The digits of the fields: of a kind, of a frame, a begin or a commit, of a thread, of the locks.
-const KIND_WIDTH: usize = 2;
+pub const KIND_WIDTH: usize = 2;
 
-const PLACE_WIDTH: usize = 4;
+pub const PLACE_WIDTH: usize = 4;
 
-const THREAD_WIDTH: usize = 2;
+pub const THREAD_WIDTH: usize = 2;
 
-const LOCKS_WIDTH: usize = 16;
+pub const LOCKS_WIDTH: usize = 16;
 
 // Where the fields of a line start.
-const FRAME_AT: usize = KIND_WIDTH;
+pub const FRAME_AT: usize = KIND_WIDTH;
 
-const THREAD_AT: usize = FRAME_AT + PLACE_WIDTH;
+pub const THREAD_AT: usize = FRAME_AT + PLACE_WIDTH;
 
-const BEGIN_AT: usize = THREAD_AT + THREAD_WIDTH;
+pub const BEGIN_AT: usize = THREAD_AT + THREAD_WIDTH;
 
-const COMMIT_AT: usize = BEGIN_AT + PLACE_WIDTH;
+pub const COMMIT_AT: usize = BEGIN_AT + PLACE_WIDTH;
 
-const LOCKS_AT: usize = COMMIT_AT + PLACE_WIDTH;
+pub const LOCKS_AT: usize = COMMIT_AT + PLACE_WIDTH;
 
-// The bytes of a line: the fields and LF.
-pub const LINE: usize = LOCKS_AT + LOCKS_WIDTH + 1;
+// Where the LF of a line stands, and the bytes of a line.
+pub const LINE_END: usize = LOCKS_AT + LOCKS_WIDTH;
+
+pub const LINE: usize = LINE_END + 1;
+
+// A place that the digits of a line hold, and the first number that they do not.
+pub type Place = u16;
+
+const PLACE_END: u64 = 1u64 << (4 * PLACE_WIDTH);
 
 // The begin or commit that is absent: the highest that its digits hold.
-const ABSENT: u32 = ((1u64 << (4 * PLACE_WIDTH)) - 1) as u32;
+pub const ABSENT: Place = (PLACE_END - 1) as Place;
+
+// A begin or a commit of a line.
+pub enum LineMark {
+    At(Place),
+    Absent,
+}
 
 // The fields of a verdict line.
 pub struct Fields {
     pub kind: u8,
-    pub frame: u32,
+    pub frame: Place,
     pub thread: u8,
-    pub begin: u32,
-    pub commit: u32,
+    pub begin: LineMark,
+    pub commit: LineMark,
     pub locks: u64,
 }
 
-// The field of a begin or a commit.
-fn mark_field(m: Mark) -> u32
-    ensures { λ n. ⌜ n ≡ markField m ⌝ }
+// The number of a begin or a commit.
+pub fn mark_field(m: LineMark) -> Place
+    ensures { λ n. ⌜ n ≡ markField placeWidth m ⌝ }
 {
     match m {
-        Mark::At(i) => i,
-        Mark::Absent => ABSENT,
+        LineMark::At(i) => i,
+        LineMark::Absent => ABSENT,
+    }
+}
+
+// The low digits of a place, as many as a line has.
+fn held_place(p: u32) -> Place
+    ensures { λ n. ⌜ n ≡ heldPlace p ⌝ }
+{
+    (p as u64 % PLACE_END) as Place
+}
+
+// The begin or the commit of a violation, in a line.
+fn line_mark(m: Mark) -> LineMark
+    ensures { λ l. ⌜ l ≡ heldMark (lineMark m) ⌝ }
+{
+    match m {
+        Mark::At(i) => LineMark::At(held_place(i)),
+        Mark::Absent => LineMark::Absent,
     }
 }
 
 // The fields that a refusal and a reducible recording share.
 fn bare_fields(kind: u8, frame: u32) -> Fields
-    ensures { λ f. ⌜ f ≡ bareFields kind frame ⌝ }
+    ensures { λ f. ⌜ f ≡ heldFields (bareFields kind frame) ⌝ }
 {
     Fields {
         kind: kind,
-        frame: frame,
+        frame: held_place(frame),
         thread: 0,
-        begin: ABSENT,
-        commit: ABSENT,
+        begin: LineMark::Absent,
+        commit: LineMark::Absent,
         locks: 0,
     }
 }
 
 // The fields of a reply to a recording of so many frames.
 pub fn reply_fields(r: Reply, frames: u32) -> Fields
-    ensures { λ f. ⌜ f ≡ replyFields r frames ⌝ }
+    ensures { λ f. ⌜ f ≡ heldFields (replyFields r frames) ⌝ }
 {
     match r {
         Reply::Refused(x) => {
@@ -87,10 +117,10 @@ pub fn reply_fields(r: Reply, frames: u32) -> Fields
                 let commit = w.commit;
                 Fields {
                     kind: kind_number(kind),
-                    frame: w.frame,
+                    frame: held_place(w.frame),
                     thread: w.thread.0,
-                    begin: mark_field(begin),
-                    commit: mark_field(commit),
+                    begin: line_mark(begin),
+                    commit: line_mark(commit),
                     locks: w.locks,
                 }
             }
@@ -102,12 +132,14 @@ pub fn reply_fields(r: Reply, frames: u32) -> Fields
 pub fn fields_line(f: Fields) -> [u8; LINE]
     ensures { λ l. ⌜ l ≡ fieldsLine f ⌝ }
 {
+    let begin = f.begin;
+    let commit = f.commit;
     let mut line = [10u8; LINE];
     digits::put(&mut line, 0, KIND_WIDTH, f.kind as u64);
     digits::put(&mut line, FRAME_AT, PLACE_WIDTH, f.frame as u64);
     digits::put(&mut line, THREAD_AT, THREAD_WIDTH, f.thread as u64);
-    digits::put(&mut line, BEGIN_AT, PLACE_WIDTH, f.begin as u64);
-    digits::put(&mut line, COMMIT_AT, PLACE_WIDTH, f.commit as u64);
+    digits::put(&mut line, BEGIN_AT, PLACE_WIDTH, mark_field(begin) as u64);
+    digits::put(&mut line, COMMIT_AT, PLACE_WIDTH, mark_field(commit) as u64);
     digits::put(&mut line, LOCKS_AT, LOCKS_WIDTH, f.locks);
     line
 }

@@ -10,11 +10,13 @@ use Rattle.output.specs.Output.{bytes, decimal}
 use Rattle.phrase.specs.declared.Source.{Source}
 use Rattle.phrase.specs.declared.Source.the-variants as source
 
+-- FILE: "of a kept line also the text" (docs/TOOL.md).
 unfoldable pub sourceText : Source → List ℕ
 sourceText source.Recording = bytes "the recording"
 sourceText source.GuardList = bytes "the guard list"
 sourceText source.Left = bytes "the left recording"
 sourceText source.Right = bytes "the right recording"
+sourceText source.Text = bytes "the text"
 
 -- "line LINE [PLACE]": "PLACE is a place counted from 0, LINE that place plus 1; both are decimal" (docs/TOOL.md)
 unfoldable pub lineText : ℕ → List ℕ

@@ -18,6 +18,7 @@ pub enum Source {
     GuardList,
     Left,
     Right,
+    Text,
 }
 
 pub fn put_source(out: &mut [u8], at: usize, s: Source) -> usize
@@ -29,6 +30,7 @@ pub fn put_source(out: &mut [u8], at: usize, s: Source) -> usize
         Source::GuardList => put_text(out, at, b"the guard list"),
         Source::Left => put_text(out, at, b"the left recording"),
         Source::Right => put_text(out, at, b"the right recording"),
+        Source::Text => put_text(out, at, b"the text"),
     }
 }
 

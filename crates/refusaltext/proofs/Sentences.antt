@@ -1,6 +1,7 @@
 -- The sentences of refusals as lines of one text.
-use Prim.Native.Nat.{ℕ, _+_, _-_, _≤_}
+use Prim.Native.Nat.{ℕ, _≤_}
 use mathlib.Core.Path.{_≡_, refl}
+use mathlib.Core.Bool.{Bool, true, false}
 use mathlib.Core.List.{List, _++_}
 use native.Mathlib.Omega.{arith}
 use Rattle.frame.specs.Refusal.{refusalNumber}
@@ -8,7 +9,7 @@ use Rattle.frame.specs.declared.Refusal.{Refusal}
 use Rattle.frame.specs.declared.Refusal.the-variants as refusal
 use Rattle.output.specs.Output.{bytes}
 use Rattle.textlines.specs.Lines.{lineLength, nthLine}
-use Rattle.refusaltext.specs.RefusalText.{refusalSentence}
+use Rattle.refusaltext.specs.RefusalText.{refusalSentence, sentenceLine}
 
 -- the numbers count from 1
 pub refusal-numbered : (r : Refusal) → 1 ≤ refusalNumber r
@@ -29,45 +30,74 @@ refusal-numbered refusal.OpenBlock = omega arith
 refusal-numbered refusal.OutputBuffer = omega arith
 refusal-numbered refusal.SetTable = omega arith
 refusal-numbered refusal.LineBuffer = omega arith
+refusal-numbered refusal.VerdictLine = omega arith
+refusal-numbered refusal.TextBuffer = omega arith
 
--- the sentences in the order of their numbers
+-- the sentences in the order of their numbers, then those of 7 to 10 whose frame is not known
 abbrev refusalLines : List ℕ
 refusalLines =
-    bytes (refusalSentence refusal.Line)
-    ++ (bytes (refusalSentence refusal.TooLong)
-    ++ (bytes (refusalSentence refusal.WordBuffer)
-    ++ (bytes (refusalSentence refusal.Operation)
-    ++ (bytes (refusalSentence refusal.Thread)
-    ++ (bytes (refusalSentence refusal.Object)
-    ++ (bytes (refusalSentence refusal.LockTaken)
-    ++ (bytes (refusalSentence refusal.LockNotHeld)
-    ++ (bytes (refusalSentence refusal.TooDeep)
-    ++ (bytes (refusalSentence refusal.NoOpenBlock)
-    ++ (bytes (refusalSentence refusal.GuardRange)
-    ++ (bytes (refusalSentence refusal.GuardRepeated)
-    ++ (bytes (refusalSentence refusal.Irreducible)
-    ++ (bytes (refusalSentence refusal.OpenBlock)
-    ++ (bytes (refusalSentence refusal.OutputBuffer)
-    ++ (bytes (refusalSentence refusal.SetTable)
-    ++ (bytes (refusalSentence refusal.LineBuffer)))))))))))))))))
+    bytes (refusalSentence refusal.Line true)
+    ++ (bytes (refusalSentence refusal.TooLong true)
+    ++ (bytes (refusalSentence refusal.WordBuffer true)
+    ++ (bytes (refusalSentence refusal.Operation true)
+    ++ (bytes (refusalSentence refusal.Thread true)
+    ++ (bytes (refusalSentence refusal.Object true)
+    ++ (bytes (refusalSentence refusal.LockTaken true)
+    ++ (bytes (refusalSentence refusal.LockNotHeld true)
+    ++ (bytes (refusalSentence refusal.TooDeep true)
+    ++ (bytes (refusalSentence refusal.NoOpenBlock true)
+    ++ (bytes (refusalSentence refusal.GuardRange true)
+    ++ (bytes (refusalSentence refusal.GuardRepeated true)
+    ++ (bytes (refusalSentence refusal.Irreducible true)
+    ++ (bytes (refusalSentence refusal.OpenBlock true)
+    ++ (bytes (refusalSentence refusal.OutputBuffer true)
+    ++ (bytes (refusalSentence refusal.SetTable true)
+    ++ (bytes (refusalSentence refusal.LineBuffer true)
+    ++ (bytes (refusalSentence refusal.VerdictLine true)
+    ++ (bytes (refusalSentence refusal.TextBuffer true)
+    ++ (bytes (refusalSentence refusal.LockTaken false)
+    ++ (bytes (refusalSentence refusal.LockNotHeld false)
+    ++ (bytes (refusalSentence refusal.TooDeep false)
+    ++ (bytes (refusalSentence refusal.NoOpenBlock false)))))))))))))))))))))))
 
--- the line of a number is its sentence
-pub refusal-line : (r : Refusal) → nthLine (refusalNumber r - 1) refusalLines ≡ bytes (refusalSentence r)
+-- the line of a refusal is its sentence
+pub refusal-line : (r : Refusal) (k : Bool) → nthLine (sentenceLine (refusalNumber r) k) refusalLines ≡ bytes (refusalSentence r k)
 unfolding bytes nthLine lineLength
-refusal-line refusal.Line = refl
-refusal-line refusal.TooLong = refl
-refusal-line refusal.WordBuffer = refl
-refusal-line refusal.Operation = refl
-refusal-line refusal.Thread = refl
-refusal-line refusal.Object = refl
-refusal-line refusal.LockTaken = refl
-refusal-line refusal.LockNotHeld = refl
-refusal-line refusal.TooDeep = refl
-refusal-line refusal.NoOpenBlock = refl
-refusal-line refusal.GuardRange = refl
-refusal-line refusal.GuardRepeated = refl
-refusal-line refusal.Irreducible = refl
-refusal-line refusal.OpenBlock = refl
-refusal-line refusal.OutputBuffer = refl
-refusal-line refusal.SetTable = refl
-refusal-line refusal.LineBuffer = refl
+refusal-line refusal.Line true = refl
+refusal-line refusal.Line false = refl
+refusal-line refusal.TooLong true = refl
+refusal-line refusal.TooLong false = refl
+refusal-line refusal.WordBuffer true = refl
+refusal-line refusal.WordBuffer false = refl
+refusal-line refusal.Operation true = refl
+refusal-line refusal.Operation false = refl
+refusal-line refusal.Thread true = refl
+refusal-line refusal.Thread false = refl
+refusal-line refusal.Object true = refl
+refusal-line refusal.Object false = refl
+refusal-line refusal.LockTaken true = refl
+refusal-line refusal.LockTaken false = refl
+refusal-line refusal.LockNotHeld true = refl
+refusal-line refusal.LockNotHeld false = refl
+refusal-line refusal.TooDeep true = refl
+refusal-line refusal.TooDeep false = refl
+refusal-line refusal.NoOpenBlock true = refl
+refusal-line refusal.NoOpenBlock false = refl
+refusal-line refusal.GuardRange true = refl
+refusal-line refusal.GuardRange false = refl
+refusal-line refusal.GuardRepeated true = refl
+refusal-line refusal.GuardRepeated false = refl
+refusal-line refusal.Irreducible true = refl
+refusal-line refusal.Irreducible false = refl
+refusal-line refusal.OpenBlock true = refl
+refusal-line refusal.OpenBlock false = refl
+refusal-line refusal.OutputBuffer true = refl
+refusal-line refusal.OutputBuffer false = refl
+refusal-line refusal.SetTable true = refl
+refusal-line refusal.SetTable false = refl
+refusal-line refusal.LineBuffer true = refl
+refusal-line refusal.LineBuffer false = refl
+refusal-line refusal.VerdictLine true = refl
+refusal-line refusal.VerdictLine false = refl
+refusal-line refusal.TextBuffer true = refl
+refusal-line refusal.TextBuffer false = refl

@@ -6,16 +6,36 @@ use sentence::Facts;
 use sentence::say;
 ghost use mathlib.Core.Path.{_≡_};
 ghost use lib.ListN.{length};
+ghost use Rattle.frame.specs.Refusal.{refusalNumber};
 ghost use Rattle.output.specs.Output.{bytes, behind, written};
-ghost use Rattle.sentence.specs.Sentence.{filled};
-ghost use Rattle.refusaltext.specs.RefusalText.{refusalSentence, refusalText};
+ghost use Rattle.sentence.specs.Sentence.{known, filled};
+ghost use Rattle.refusaltext.specs.RefusalText.{refusalSentence, sentenceLine, refusalText};
+
+// The line of a refusal's sentence in the text of them all.
+fn line_of(reason: Refusal, known: bool) -> u8
+    ensures { λ n. ⌜ n ≡ sentenceLine (refusalNumber reason) known ⌝ }
+{
+    let n = frame::refusal_number(reason);
+    if known {
+        return n - 1;
+    }
+    if n < 7 {
+        return n - 1;
+    }
+    if 10 < n {
+        return n - 1;
+    }
+    n + 12
+}
 
 // The sentence of a refusal.
 fn say_refusal(out: &mut [u8], at: usize, reason: Refusal, f: Facts) -> usize
-    ensures place { λ r. ⌜ r ≡ behind (length (now (out .entry))) at (filled f (bytes (refusalSentence reason))) ⌝ }
-    ensures contents { λ r. ⌜ now (out .exit) ≡ written (now (out .entry)) at (filled f (bytes (refusalSentence reason))) ⌝ }
+    ensures place { λ r. ⌜ r ≡ behind (length (now (out .entry))) at (filled f (bytes (refusalSentence reason (known (f .frame))))) ⌝ }
+    ensures contents { λ r. ⌜ now (out .exit) ≡ written (now (out .entry)) at (filled f (bytes (refusalSentence reason (known (f .frame))))) ⌝ }
 {
-    let n = frame::refusal_number(reason);
+    let d = f.frame;
+    let k = sentence::known(d);
+    let n = line_of(reason, k);
     let sentence = textlines::nth_line(
         b"refused: number 1, @ of % is not eight digits 0-9 A-F and one LF; write it so, without blanks, lower case or CR, and end the last line.\n\
             refused: number 2, % has more than # lines; cut it down to #.\n\
@@ -33,8 +53,14 @@ fn say_refusal(out: &mut [u8], at: usize, reason: Refusal, f: Facts) -> usize
             refused: number 14, the block that begins at @ of % is open at the end; add its end.\n\
             refused: number 15, the output has fewer than # words; lend one for each frame.\n\
             refused: number 16, the table of candidate sets has fewer than # entries; lend #.\n\
-            refused: number 17, the line buffer has fewer than # bytes; lend #.\n",
-        n - 1,
+            refused: number 17, the line buffer has fewer than # bytes; lend #.\n\
+            refused: number 18, this is no verdict line: that has 32 digits 0-9 A-F, the first two 00 to 04 or 81 to FF, and one LF; hand it on as it was written.\n\
+            refused: number 19, the text has fewer than # bytes from the given place on; lend them.\n\
+            refused: number 7, @ of % takes a lock that is held already; release it before this line.\n\
+            refused: number 8, @ of % lets go a lock that its thread does not hold; acquire it first or drop the line.\n\
+            refused: number 9, @ of % is a begin inside 15 open blocks of its thread; nest at most 15.\n\
+            refused: number 10, @ of % is an end where its thread has no open block; add its begin or drop the line.\n",
+        n,
     );
     say(out, at, sentence, f)
 }

@@ -1,9 +1,9 @@
 -- How long the tool's answers can be: a verdict line, an answer in words, 4,096 lines of nine bytes, or a refusal.
-use Prim.Native.Nat.{ℕ, _*_, _≤_}
+use Prim.Native.Nat.{ℕ, _≤_}
 use mathlib.Core.Path.{_≡_, refl}
-use mathlib.Core.List.{List, [], _∷_}
+use mathlib.Core.List.{List, [], _∷_, _++_}
 use native.Mathlib.Omega.{arith}
-use lib.ListN.{length, replicate, length-append, length-replicate}
+use lib.ListN.{length, replicate, length-replicate}
 use Rattle.verdict.specs.Verdict.{verdictUnder}
 use Rattle.frame.specs.Limits.{mostFrames}
 use Rattle.text.specs.Text.{scanned, wordsTo, mostBytes}
@@ -24,16 +24,23 @@ use Rattle.equal.specs.declared.EqualReply.the-variants as equal
 use Rattle.equal.specs.declared.Side.the-variants as side
 use Rattle.serial.specs.Order.{serialWords}
 use Rattle.order.specs.Order.{orderReply, orderUnder, onList as orderOnList}
-use Rattle.digits.specs.Digits.{wordLine}
-use Rattle.digits.proofs.Writing.{length-word-line}
+use Rattle.digits.proofs.Writing.{length-lines}
 use Rattle.line.proofs.Laws.{length-verdict-line}
 use Rattle.output.specs.Output.{bytes}
 use Rattle.output.proofs.Laws.{put-fits}
 use Rattle.phrase.specs.declared.Source.the-variants as source
+use Rattle.fields.specs.Fields.{lineFields}
+use Rattle.fields.specs.declared.FieldsReply.{FieldsReply}
+use Rattle.fields.specs.declared.FieldsReply.the-variants as fields
+use Rattle.kept.specs.Kept.{keptReply}
+use Rattle.kept.specs.declared.Kept.{Kept}
+use Rattle.kept.specs.declared.Kept.the-variants as kept
+use Rattle.linereport.specs.LineReport.{sourceOf, otherText, keptText, lineRead, lineReport}
+use Rattle.report.proofs.Texts.{plain, joined, decimal-within}
 use Rattle.report.proofs.Answers.{refusal-fits, explanation-fits}
 use Rattle.opening.specs.Opening.{openedRead, onList, opening}
 use Rattle.verdictreport.specs.VerdictReport.{verdictOpened, verdictReport, explainOpened, explainReport}
-use Rattle.serialreport.specs.SerialReport.{linesOf, orderText, serialOpened, serialReport}
+use Rattle.serialreport.specs.SerialReport.{orderText, serialOpened, serialReport}
 use Rattle.equalreport.specs.EqualReport.{equalText, rightOpened, leftChecked, leftOpened, equalReport}
 use Rattle.report.specs.Fits.{Whole, ReportsFit}
 use Rattle.opening.specs.declared.Opened.{Opened}
@@ -53,12 +60,6 @@ explain-fits j list s = go (opening j list s)
     go : (o : Opened) → length (explainOpened o j list s) ≤ mostBytes
     go (opened.Frames n) = omega (arith, explanation-fits source.Recording (wordsTo s n) (verdictUnder j list (wordsTo s n)) n)
     go (opened.Refused f x) = omega (arith, refusal-fits f [] x)
-
--- a word's line has nine bytes
-length-lines : (ws : List ℕ) → length (linesOf ws) ≡ 9 * length ws
-unfolding linesOf
-length-lines [] = refl
-length-lines (w ∷ ws) = omega (arith, length-append (wordLine w) (linesOf ws), length-word-line w, length-lines ws)
 
 -- the serial order of a recording, under a table of guards
 order-fits : (g ws : List ℕ) → length ws ≤ mostFrames → length (orderText (orderReply g ws mostFrames) ws (serialWords g ws)) ≤ mostBytes
@@ -111,6 +112,24 @@ equal-fits l r = go (openedRead source.Left (scanned l))
     go (opened.Frames n) = left-fits (checkReply (wordsTo l n)) (wordsTo l n) r
     go (opened.Refused f x) = omega (arith, refusal-fits f [] x)
 
+other-fits : (n p : ℕ) → length (otherText n p) ≤ mostBytes
+unfolding bytes
+other-fits n p =
+    let behind = joined (plain ", which this check does not give; its place is ") (joined (decimal-within p) (plain ".\n")) in
+    let x = joined (plain "refused: number ") (joined (decimal-within n) behind) in
+    omega (arith, x .fits)
+
+kept-fits : (k : Kept) (p : ℕ) → length (keptText k p) ≤ mostBytes
+kept-fits (kept.Reply r) p = omega (arith, explanation-fits (sourceOf r) [] r p)
+kept-fits (kept.Other n) p = other-fits n p
+
+pub line-fits : (w : List ℕ) → length (lineReport w) ≤ mostBytes
+line-fits w = go (lineFields (w ++ (10 ∷ [])))
+  where
+    go : (q : FieldsReply) → length (lineRead q) ≤ mostBytes
+    go (fields.Read f) = kept-fits (keptReply f) (f .frame)
+    go (fields.Refused x) = omega (arith, refusal-fits source.Text [] x)
+
 whole : (b t : List ℕ) → mostBytes ≤ length b → length t ≤ mostBytes → Whole b t
 whole b t h f = put-fits b t (omega arith)
 
@@ -122,4 +141,5 @@ reports-fit b h = (
     whole b (serialReport j list s) h (serial-fits j list s),
   ),
   λ left right. whole b (equalReport left right) h (equal-fits left right),
+  λ word. whole b (lineReport word) h (line-fits word),
 )

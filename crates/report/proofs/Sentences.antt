@@ -25,6 +25,7 @@ source-within source.Recording = wider (plain "the recording") (omega arith)
 source-within source.GuardList = wider (plain "the guard list") (omega arith)
 source-within source.Left = wider (plain "the left recording") (omega arith)
 source-within source.Right = plain "the right recording"
+source-within source.Text = wider (plain "the text") (omega arith)
 
 line-within : (p : ℕ) → Within 48 (lineText p)
 unfolding lineText bytes

@@ -9,6 +9,7 @@ use Rattle.output.specs.Output.{behind, written}
 use Rattle.verdictreport.specs.VerdictReport.{verdictReport, explainReport}
 use Rattle.serialreport.specs.SerialReport.{serialReport}
 use Rattle.equalreport.specs.EqualReport.{equalReport}
+use Rattle.linereport.specs.LineReport.{lineReport}
 
 -- A text written into a buffer from its start stands there whole: the place is behind its last byte, and what stood behind is left.
 abbrev pub Whole : List ℕ → List ℕ → Type 0
@@ -19,4 +20,4 @@ abbrev pub ReportsFit : Type 0
 ReportsFit =
     (b : List ℕ) → mostBytes ≤ length b
     → ((j : Judgement) (list s : List ℕ) → Whole b (verdictReport j list s) × Whole b (explainReport j list s) × Whole b (serialReport j list s))
-    × ((left right : List ℕ) → Whole b (equalReport left right))
+    × ((left right : List ℕ) → Whole b (equalReport left right)) × ((word : List ℕ) → Whole b (lineReport word))

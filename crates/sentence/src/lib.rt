@@ -9,7 +9,7 @@ use phrase::Source;
 ghost use mathlib.Core.Path.{_≡_};
 ghost use lib.ListN.{length};
 ghost use Rattle.output.specs.Output.{behind, written};
-ghost use Rattle.sentence.specs.Sentence.{piece, filled};
+ghost use Rattle.sentence.specs.Sentence.{piece, known, filled};
 
 // What a sentence can speak of: a place, the frame there, a thread, the block's begin and commit, the frame that committed, and locks.
 pub struct Facts {
@@ -53,6 +53,16 @@ fn put_piece(out: &mut [u8], at: usize, c: u8, f: Facts) -> usize
         b'~' => put_locks(out, at, f.locks),
         b'#' => put_decimal(out, at, f.place as u64),
         _ => put_byte(out, at, c),
+    }
+}
+
+// Whether a frame is at hand.
+pub fn known(d: Decoded) -> bool
+    ensures { λ r. ⌜ r ≡ known d ⌝ }
+{
+    match d {
+        Decoded::Frame(f) => true,
+        Decoded::Bad(r) => false,
     }
 }
 

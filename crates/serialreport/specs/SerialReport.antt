@@ -1,6 +1,6 @@
 -- The serial order as the tool prints it, written into a lent buffer as far as there is room; the reply is the number of bytes written.
 use Prim.Native.Nat.{ℕ}
-use mathlib.Core.List.{List, [], _∷_, _++_}
+use mathlib.Core.List.{List, []}
 use Rattle.frame.specs.Limits.{mostFrames}
 use Rattle.frame.specs.declared.Refused.{Refused}
 use Rattle.text.specs.Text.{wordsTo}
@@ -10,17 +10,12 @@ use Rattle.serial.specs.Order.{serialWords}
 use Rattle.order.specs.Order.{orderUnder}
 use Rattle.order.specs.declared.OrderReply.{OrderReply}
 use Rattle.order.specs.declared.OrderReply.the-variants as order
-use Rattle.digits.specs.Digits.{wordLine}
+use Rattle.digits.specs.Digits.{linesOf}
 use Rattle.phrase.specs.declared.Source.the-variants as source
 use Rattle.refusaltext.specs.RefusalText.{refusalText}
 use Rattle.opening.specs.declared.Opened.{Opened}
 use Rattle.opening.specs.declared.Opened.the-variants as opened
 use Rattle.opening.specs.Opening.{opening}
-
--- Words as lines.
-unfoldable pub linesOf : List ℕ → List ℕ
-linesOf [] = []
-linesOf (w ∷ ws) = wordLine w ++ linesOf ws
 
 -- The command serial: the serial order as lines, or the refusal in words. The output has room for any recording.
 abbrev pub orderText : OrderReply → List ℕ → List ℕ → List ℕ

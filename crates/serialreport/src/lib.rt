@@ -15,7 +15,8 @@ ghost use Rattle.serial.specs.Order.{serialWords};
 ghost use Rattle.order.specs.Order.{orderUnder};
 ghost use Rattle.output.specs.Output.{behind, written};
 ghost use Rattle.opening.specs.Opening.{opening};
-ghost use Rattle.serialreport.specs.SerialReport.{linesOf, orderText, serialReport};
+ghost use Rattle.digits.specs.Digits.{linesOf};
+ghost use Rattle.serialreport.specs.SerialReport.{orderText, serialReport};
 
 // Words as lines.
 fn put_words(out: &mut [u8], words: &[u32]) -> usize

@@ -1,5 +1,5 @@
 // The command-line tool. Its words, its files and standard output are crate console's; what is
-// printed of the files is said by the crates verdictreport, serialreport and equalreport.
+// printed of the files is said by the crates verdictreport, serialreport and equalreport, and of a kept line by linereport.
 use command::Command;
 use command::Request;
 use console::ROOM;
@@ -38,11 +38,21 @@ fn judge(c: Command, j: Judgement) {
     }
 }
 
+// The answer to a kept line, word 2. What does not fit the buffer is longer than a line.
+fn explain_line() {
+    let mut word = [0u8; 64];
+    let k = os::arg(2, &mut word);
+    let mut out = console::room();
+    let n = linereport::line_report(&word[..k], &mut out);
+    console::print(&out[..n]);
+}
+
 fn main() {
     let r = console::request();
     match r {
         Request::Judge(c, j) => judge(c, j),
         Request::Compare => run(Command::Equal, Judgement::Inferred, true, 3),
+        Request::Line => explain_line(),
         _ => {}
     }
 }

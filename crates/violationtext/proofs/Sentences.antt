@@ -1,6 +1,7 @@
 -- The sentences of violations as lines of two texts.
-use Prim.Native.Nat.{ℕ, _+_, _-_, _≤_}
+use Prim.Native.Nat.{ℕ, _+_, _-_, _≤_, _<_}
 use mathlib.Core.Path.{_≡_, refl}
+use mathlib.Core.Bool.{Bool, true, false, cond}
 use mathlib.Core.List.{List, _++_}
 use native.Mathlib.Omega.{arith}
 use Rattle.reply.specs.Reply.{kindNumber}
@@ -16,6 +17,12 @@ kind-numbered kind.UnprotectedAfterCommit = omega arith
 kind-numbered kind.AcquireAfterCommit = omega arith
 kind-numbered kind.SetEmptied = omega arith
 
+pub kind-below : (k : Kind) → kindNumber k < 5
+kind-below kind.GuardNotHeld = omega arith
+kind-below kind.UnprotectedAfterCommit = omega arith
+kind-below kind.AcquireAfterCommit = omega arith
+kind-below kind.SetEmptied = omega arith
+
 abbrev kindLines : List ℕ
 kindLines =
     bytes (kindSentence kind.GuardNotHeld)
@@ -23,12 +30,17 @@ kindLines =
     ++ (bytes (kindSentence kind.AcquireAfterCommit)
     ++ (bytes (kindSentence kind.SetEmptied))))
 
+-- those of a known frame, then the others
 abbrev whyLines : List ℕ
 whyLines =
-    bytes (whySentence kind.GuardNotHeld)
-    ++ (bytes (whySentence kind.UnprotectedAfterCommit)
-    ++ (bytes (whySentence kind.AcquireAfterCommit)
-    ++ (bytes (whySentence kind.SetEmptied))))
+    bytes (whySentence kind.GuardNotHeld true)
+    ++ (bytes (whySentence kind.UnprotectedAfterCommit true)
+    ++ (bytes (whySentence kind.AcquireAfterCommit true)
+    ++ (bytes (whySentence kind.SetEmptied true)
+    ++ (bytes (whySentence kind.GuardNotHeld false)
+    ++ (bytes (whySentence kind.UnprotectedAfterCommit false)
+    ++ (bytes (whySentence kind.AcquireAfterCommit false)
+    ++ (bytes (whySentence kind.SetEmptied false))))))))
 
 pub kind-line : (k : Kind) → nthLine (kindNumber k - 1) kindLines ≡ bytes (kindSentence k)
 unfolding bytes nthLine lineLength
@@ -37,9 +49,13 @@ kind-line kind.UnprotectedAfterCommit = refl
 kind-line kind.AcquireAfterCommit = refl
 kind-line kind.SetEmptied = refl
 
-pub why-line : (k : Kind) → nthLine (kindNumber k - 1) whyLines ≡ bytes (whySentence k)
+pub why-line : (k : Kind) (b : Bool) → nthLine (cond b (kindNumber k - 1) (kindNumber k + 3)) whyLines ≡ bytes (whySentence k b)
 unfolding bytes nthLine lineLength
-why-line kind.GuardNotHeld = refl
-why-line kind.UnprotectedAfterCommit = refl
-why-line kind.AcquireAfterCommit = refl
-why-line kind.SetEmptied = refl
+why-line kind.GuardNotHeld true = refl
+why-line kind.GuardNotHeld false = refl
+why-line kind.UnprotectedAfterCommit true = refl
+why-line kind.UnprotectedAfterCommit false = refl
+why-line kind.AcquireAfterCommit true = refl
+why-line kind.AcquireAfterCommit false = refl
+why-line kind.SetEmptied true = refl
+why-line kind.SetEmptied false = refl

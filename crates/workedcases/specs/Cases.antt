@@ -15,9 +15,10 @@ use Rattle.equal.specs.declared.EqualReply.{EqualReply}
 use Rattle.equal.specs.declared.EqualReply.the-variants.{Equal, Different, Refused}
 use Rattle.serial.specs.Order.{commits, inSerialOrder}
 use Rattle.digits.specs.Digits.{digits}
-use Rattle.line.specs.Line.{replyFields, verdictLine}
+use Rattle.line.specs.Line.{placeWidth, markField, fieldMark, replyFields, verdictLine}
 use Rattle.output.specs.Output.{bytes}
 use Rattle.line.specs.declared.Fields.{Fields}
+use Rattle.line.specs.declared.LineMark.{LineMark}
 use Rattle.answer.specs.Answer.{textJudged}
 
 -- The text of words: eight digits and an LF each.
@@ -39,15 +40,18 @@ pub data Row : Type 0 where
 
 -- The fields of the line, in its order: kind, frame, thread, begin, commit, locks.
 abbrev pub fields : ℕ → ℕ → ℕ → ℕ → ℕ → ℕ → Fields
-fields k f t b c l = record { kind = k; frame = f; thread = t; begin = b; commit = c; locks = l }
+fields k f t b c l = record { kind = k; frame = f; thread = t; begin = fieldMark placeWidth b; commit = fieldMark placeWidth c; locks = l }
 
 -- Absent begin or commit.
 abbrev pub absent : ℕ
 absent = 0xFFFF
 
+abbrev pub sameMark : LineMark → LineMark → Bool
+sameMark x y = eqb (markField placeWidth x) (markField placeWidth y)
+
 abbrev pub sameFields : Fields → Fields → Bool
 sameFields x y =
-    eqb (x .kind) (y .kind) && (eqb (x .frame) (y .frame) && (eqb (x .thread) (y .thread) && (eqb (x .begin) (y .begin) && (eqb (x .commit) (y .commit) && eqb (x .locks) (y .locks)))))
+    eqb (x .kind) (y .kind) && (eqb (x .frame) (y .frame) && (eqb (x .thread) (y .thread) && (sameMark (x .begin) (y .begin) && (sameMark (x .commit) (y .commit) && eqb (x .locks) (y .locks)))))
 
 abbrev pub sameNumbers : List ℕ → List ℕ → Bool
 sameNumbers [] [] = true

@@ -1,7 +1,8 @@
-//! Recordings and guard lists at the limits: nesting, locks, threads, candidate sets.
+//! Recordings and guard lists at the limits: nesting, locks, threads, candidate sets. Places and
+//! lengths of a text that is written, and the fields of a verdict line, at theirs.
 
-use crate::random::{Random, Recording};
-use crate::VARIABLES;
+use crate::random::{damage_text, Random, Recording};
+use crate::{Fields, VARIABLES};
 
 pub const THREADS: u32 = 32;
 pub const LOCKS: u32 = 64;
@@ -295,4 +296,133 @@ pub fn turns(random: &mut Random) -> Vec<u32> {
         }
     }
     words
+}
+
+// Texts that are written.
+
+/// Places beyond any text. Many of them wrap with so many bytes: to 0, to less and to a little more.
+pub fn far_places(bytes: usize) -> Vec<usize> {
+    let wrapping = [
+        bytes,
+        bytes + 1,
+        bytes + 9,
+        bytes / 2,
+        bytes.saturating_sub(1),
+    ];
+    let wrapping = wrapping.into_iter().filter(|&back| back > 0);
+    [1 << 32, (1 << 32) + 1, 1 << 63, (1 << 63) + 1]
+        .into_iter()
+        .chain([1, 2, 8, 9, 10].map(|back| usize::MAX - back + 1))
+        .chain(wrapping.map(|back| usize::MAX - back + 1))
+        .collect()
+}
+
+/// Lengths of a text with places in it and beyond it, on both sides of each boundary for so many
+/// bytes.
+pub fn rooms(bytes: usize) -> Vec<(usize, usize)> {
+    let mut rooms = Vec::new();
+    for place in [0, 1, 3, 5, 9, 40] {
+        for room in [0, 1, bytes.saturating_sub(1), bytes, bytes + 1, bytes + 9] {
+            rooms.push((place + room, place));
+        }
+        for beyond in [1, 2, 9] {
+            rooms.push((place, place + beyond));
+        }
+    }
+    for text_len in [0, 5, bytes, bytes + 9] {
+        rooms.extend(far_places(bytes).iter().map(|&place| (text_len, place)));
+    }
+    rooms
+}
+
+/// A length of a text and a place in it, with enough room for so many bytes in most cases.
+pub fn random_room(random: &mut Random, bytes: usize) -> (usize, usize) {
+    let place = match random.below(3) {
+        0 => 0,
+        _ => random.below(40),
+    };
+    let spare = random.below(30);
+    match random.below(20) {
+        0..8 => (place + bytes, place),
+        8..15 => (place + bytes + spare, place),
+        15 => ((place + bytes).saturating_sub(1), place),
+        16 => (random.between(0, place + bytes), place),
+        17 => (place, place + 1 + random.pick(&[0, 0, 1, spare])),
+        _ => (place + spare, random.pick(&far_places(bytes))),
+    }
+}
+
+// Verdict lines.
+
+/// Kinds on both sides of each boundary.
+pub const EDGE_KINDS: [u8; 14] = [
+    0x00, 0x01, 0x02, 0x03, 0x04, 0x05, 0x7F, 0x80, 0x81, 0x91, 0x93, 0x94, 0xFE, 0xFF,
+];
+pub const EDGE_PLACES: [u16; 7] = [0, 1, 0x0FFF, 0x1000, 0x1001, 0xFFFE, 0xFFFF];
+pub const EDGE_LOCKS: [u64; 6] = [0, 1, 6, 1 << 63, u64::MAX - 1, u64::MAX];
+
+/// Fields of a verdict line, at edges and anywhere; of most the kind fits.
+pub fn random_fields(random: &mut Random) -> Fields {
+    let place = |random: &mut Random| match random.below(3) {
+        0 => random.draw() as u16,
+        _ => random.pick(&EDGE_PLACES),
+    };
+    Fields {
+        kind: match random.below(4) {
+            0 => random.pick(&EDGE_KINDS),
+            1 => random.draw() as u8,
+            2 => random.between(0x81, 0x93) as u8,
+            _ => random.between(0x00, 0x04) as u8,
+        },
+        frame: place(random),
+        thread: match random.below(2) {
+            0 => random.draw() as u8,
+            _ => random.pick(&[0, 1, 31, 32, 255]),
+        },
+        begin: place(random),
+        commit: place(random),
+        locks: match random.below(3) {
+            0 => random.draw(),
+            1 => 1 << random.below(LOCKS as usize),
+            _ => random.pick(&EDGE_LOCKS),
+        },
+    }
+}
+
+/// A verdict line, damaged in some cases.
+pub fn random_line(random: &mut Random) -> Vec<u8> {
+    let mut line = random_fields(random).line().into_bytes();
+    let place = random.below(32);
+    match random.below(20) {
+        0..3 => damage_text(random, &mut line),
+        3 => line[place] = random.draw() as u8,
+        4 => line[place] = random.pick(b"/:@G`afg\n\r \0\xFF"),
+        5 => line[32] = random.draw() as u8,
+        6 => line.truncate(random.below(33)),
+        7 => line.extend(random.pick(&[&b"\n"[..], b"\r", b"0", &[0]])),
+        8 => line.insert(32, random.pick(b"\r0\n")),
+        _ => {}
+    }
+    line
+}
+
+/// Lines that are one change away from this one: each byte that is next to a digit at each place,
+/// lower case, other ends, other lengths.
+pub fn near_lines(line: &[u8]) -> Vec<Vec<u8>> {
+    let mut lines = vec![line.to_ascii_lowercase(), [line, line].concat()];
+    for place in 0..line.len() {
+        for &byte in b"/:@G`afg\n\r \0\xFF" {
+            let mut changed = line.to_vec();
+            changed[place] = byte;
+            lines.push(changed);
+        }
+        lines.push([&line[..place], &line[place + 1..]].concat());
+        lines.push([&line[..place], b"0", &line[place..]].concat());
+        lines.push(line[..place].to_vec());
+    }
+    let digits = &line[..32];
+    for end in [&b"\r"[..], b"\r\n", b"\n\n", b"\n\0", b" \n", b"0", b"0\n"] {
+        lines.push([digits, end].concat());
+    }
+    lines
 }

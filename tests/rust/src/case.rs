@@ -2,7 +2,7 @@
 //! are compared on the reply and on the whole content of every buffer.
 
 use crate::random::Random;
-use crate::{LINE_BYTES, VARIABLES};
+use crate::{Fields, FieldsOut, ABSENT, LINE_BYTES, VARIABLES};
 use std::fmt;
 
 /// Elements on both sides of each buffer, which no call may touch.
@@ -19,6 +19,9 @@ pub struct Implementation {
     pub equal: fn(&[u32], &[u32]) -> u64,
     pub serial_declared: fn(&[u8], &[u32], &mut [u32]) -> u64,
     pub serial_inferred: fn(&[u32], &mut [u32]) -> u64,
+    pub write: fn(&[u32], &mut [u8], usize) -> u64,
+    pub line_read: fn(&[u8], FieldsOut) -> u64,
+    pub line_write: fn(Fields, &mut [u8]) -> u64,
 }
 
 pub const REFERENCE: Implementation = Implementation {
@@ -31,6 +34,9 @@ pub const REFERENCE: Implementation = Implementation {
     equal: crate::equal,
     serial_declared: crate::serial_declared,
     serial_inferred: crate::serial_inferred,
+    write: crate::write,
+    line_read: crate::line_read,
+    line_write: crate::line_write,
 };
 
 // Calls.
@@ -45,9 +51,12 @@ pub enum Call {
     Equal,
     SerialDeclared,
     SerialInferred,
+    Write,
+    LineRead,
+    LineWrite,
 }
 
-pub const CALLS: [Call; 8] = [
+pub const CALLS: [Call; 11] = [
     Call::Check,
     Call::Read,
     Call::Guards,
@@ -56,9 +65,12 @@ pub const CALLS: [Call; 8] = [
     Call::Equal,
     Call::SerialDeclared,
     Call::SerialInferred,
+    Call::Write,
+    Call::LineRead,
+    Call::LineWrite,
 ];
 
-const NAMES: [&str; 8] = [
+const NAMES: [&str; CALLS.len()] = [
     "check",
     "read",
     "guards",
@@ -67,11 +79,14 @@ const NAMES: [&str; 8] = [
     "equal",
     "serial declared",
     "serial inferred",
+    "write",
+    "line read",
+    "line write",
 ];
 
-/// Kinds and refusals that can occur, per call. Kind 0 of read and guards: accepted; of equal:
-/// not equal, and 1: equal; of the serial orders: written.
-const POSSIBLE: [(&[usize], &[usize]); 8] = [
+/// Kinds and refusals that can occur, per call. Kind 0 of read, guards and line read: accepted; of
+/// equal: not equal, and 1: equal; of the serial orders, write and line write: written.
+const POSSIBLE: [(&[usize], &[usize]); CALLS.len()] = [
     (&[0, 3, 4], &[1, 2, 4, 5, 6, 7, 8, 9, 10, 17]),
     (&[0], &[1, 2, 3]),
     (&[0], &[1, 11, 12]),
@@ -80,6 +95,9 @@ const POSSIBLE: [(&[usize], &[usize]); 8] = [
     (&[0, 1], &[2, 4, 5, 6, 7, 8, 9, 10]),
     (&[0], &[1, 2, 4, 5, 6, 7, 8, 9, 10, 11, 12, 13, 14, 15]),
     (&[0], &[2, 4, 5, 6, 7, 8, 9, 10, 13, 14, 15]),
+    (&[0], &[2, 4, 5, 6, 7, 8, 9, 10, 19]),
+    (&[0], &[18]),
+    (&[0], &[17, 18]),
 ];
 
 impl Call {
@@ -100,8 +118,13 @@ impl Call {
         matches!(self, Call::SerialDeclared | Call::SerialInferred)
     }
 
-    pub fn writes_line(self) -> bool {
+    /// The reply is the kind of a verdict line.
+    pub fn replies_kind(self) -> bool {
         matches!(self, Call::Check | Call::Declared | Call::Inferred)
+    }
+
+    fn writes_line(self) -> bool {
+        self.replies_kind() || self == Call::LineWrite
     }
 
     fn writes_words(self) -> bool {
@@ -115,15 +138,20 @@ impl Call {
 #[derive(Clone)]
 pub struct Case {
     pub call: Call,
-    /// Recording text, or guard list.
+    /// Recording text, guard list, or verdict line.
     pub text: Vec<u8>,
     pub frames: Vec<u32>,
     /// The right recording.
     pub right: Vec<u32>,
+    /// Of the line that is written.
+    pub fields: Fields,
     pub line_len: usize,
     /// Also the length of the output of a serial order.
     pub words_len: usize,
     pub sets_len: usize,
+    /// The text that is written, and the place from which on.
+    pub text_len: usize,
+    pub place: usize,
     /// Decides the contents of the lent buffers before the call.
     pub fill: u64,
 }
@@ -134,7 +162,61 @@ pub struct Outcome {
     pub line: Vec<u8>,
     pub words: Vec<u32>,
     pub sets: Vec<u64>,
+    pub text: Vec<u8>,
+    pub numbers: Numbers,
     pub input_kept: bool,
+    /// What was written reads back, or what was read is written again; set by `compare`.
+    pub comes_back: bool,
+}
+
+/// The numbers that are lent for the fields of a verdict line, each with margins.
+#[derive(Clone, Debug, PartialEq)]
+pub struct Numbers {
+    kind: Vec<u8>,
+    frame: Vec<u16>,
+    thread: Vec<u8>,
+    begin: Vec<u16>,
+    commit: Vec<u16>,
+    locks: Vec<u64>,
+}
+
+impl Numbers {
+    fn filled(random: &mut Random) -> Numbers {
+        Numbers {
+            kind: filled(random, true, 1, |x| x as u8),
+            frame: filled(random, true, 1, |x| x as u16),
+            thread: filled(random, true, 1, |x| x as u8),
+            begin: filled(random, true, 1, |x| x as u16),
+            commit: filled(random, true, 1, |x| x as u16),
+            locks: filled(random, true, 1, |x| x),
+        }
+    }
+
+    fn lent(&mut self) -> FieldsOut<'_> {
+        FieldsOut {
+            kind: &mut self.kind[MARGIN],
+            frame: &mut self.frame[MARGIN],
+            thread: &mut self.thread[MARGIN],
+            begin: &mut self.begin[MARGIN],
+            commit: &mut self.commit[MARGIN],
+            locks: &mut self.locks[MARGIN],
+        }
+    }
+
+    pub fn set(&mut self, fields: Fields) {
+        self.lent().set(fields);
+    }
+
+    pub fn fields(&self) -> Fields {
+        Fields {
+            kind: self.kind[MARGIN],
+            frame: self.frame[MARGIN],
+            thread: self.thread[MARGIN],
+            begin: self.begin[MARGIN],
+            commit: self.commit[MARGIN],
+            locks: self.locks[MARGIN],
+        }
+    }
 }
 
 /// A buffer with margins and random contents; without elements if the call does not take it.
@@ -178,9 +260,12 @@ impl Case {
             text: Vec::new(),
             frames: Vec::new(),
             right: Vec::new(),
+            fields: Fields::default(),
             line_len: LINE_BYTES,
             words_len: 0,
             sets_len: VARIABLES,
+            text_len: 0,
+            place: 0,
             fill: 0,
         }
     }
@@ -196,7 +281,10 @@ impl Case {
         let mut line = filled(random, call.writes_line(), self.line_len, |x| x as u8);
         let mut words = filled(random, call.writes_words(), self.words_len, |x| x as u32);
         let mut sets = filled(random, call == Call::Inferred, self.sets_len, |x| x);
+        let mut written = filled(random, call == Call::Write, self.text_len, |x| x as u8);
+        let mut numbers = Numbers::filled(random);
         let (line_out, words_out, sets_out) = (slot(&mut line), slot(&mut words), slot(&mut sets));
+        let text_out = slot(&mut written);
         let (text_in, frames_in, right_in) = (text.lent(), frames.lent(), right.lent());
         let Implementation {
             check,
@@ -207,6 +295,9 @@ impl Case {
             equal,
             serial_declared,
             serial_inferred,
+            write,
+            line_read,
+            line_write,
             ..
         } = implementation;
         let reply = match call {
@@ -218,6 +309,9 @@ impl Case {
             Call::Equal => equal(frames_in, right_in),
             Call::SerialDeclared => serial_declared(text_in, frames_in, words_out),
             Call::SerialInferred => serial_inferred(frames_in, words_out),
+            Call::Write => write(frames_in, text_out, self.place),
+            Call::LineRead => line_read(text_in, numbers.lent()),
+            Call::LineWrite => line_write(self.fields, line_out),
         };
         let (text, frames, right) = std::hint::black_box((text, frames, right));
         Outcome {
@@ -225,15 +319,18 @@ impl Case {
             line,
             words,
             sets,
+            text: written,
+            numbers,
             input_kept: text.lent() == self.text
                 && frames.lent() == self.frames
                 && right.lent() == self.right,
+            comes_back: false,
         }
     }
 
     /// The outcome of the reference, which the others must share; else what differs.
     pub fn compare(&self, others: &[&Implementation]) -> Result<Outcome, String> {
-        let expected = self.run(&REFERENCE);
+        let mut expected = self.run(&REFERENCE);
         for other in others {
             let outcome = self.run(other);
             if outcome != expected {
@@ -254,7 +351,48 @@ impl Case {
                 ));
             }
         }
-        Ok(expected)
+        match self.comes_back(&expected) {
+            Some(false) => Err(format!(
+                "NOT THE SAME when written and read again\n{self}\n{}",
+                expected.describe("all")
+            )),
+            comes_back => {
+                expected.comes_back = comes_back.is_some();
+                Ok(expected)
+            }
+        }
+    }
+
+    /// Whether what was written reads back, and what was read is written again; none where that is
+    /// not promised.
+    fn comes_back(&self, outcome: &Outcome) -> Option<bool> {
+        if outcome.reply >> 32 != 0 {
+            return None;
+        }
+        let count = outcome.reply as usize;
+        match self.call {
+            Call::Write => {
+                let mut words = vec![0; self.frames.len()];
+                let lines = crate::read(outcome.written_text(self.place), &mut words);
+                Some(lines == words.len() as u64 && words == self.frames)
+            }
+            Call::Read => {
+                let mut text = vec![0; self.text.len()];
+                let bytes = crate::write(&outcome.words[MARGIN..][..count], &mut text, 0);
+                // Words that are no sound recording are not written.
+                (bytes >> 32 == 0).then(|| bytes == text.len() as u64 && text == self.text)
+            }
+            Call::LineRead => {
+                let mut line = [0; LINE_BYTES];
+                crate::line_write(outcome.numbers.fields(), &mut line);
+                Some(line == self.text[..])
+            }
+            Call::LineWrite => {
+                let line = &outcome.line[MARGIN..][..count];
+                Some(Fields::of_line(line) == Some(self.fields))
+            }
+            _ => None,
+        }
     }
 }
 
@@ -264,11 +402,12 @@ impl fmt::Display for Case {
         writeln!(to, "text \"{}\"", self.text.escape_ascii())?;
         writeln!(to, "frames {:08X?}", self.frames)?;
         writeln!(to, "right frames {:08X?}", self.right)?;
+        writeln!(to, "fields {:X?}", self.fields)?;
         let (line, words, sets) = (self.line_len, self.words_len, self.sets_len);
-        let fill = self.fill;
+        let (text, place, fill) = (self.text_len, self.place, self.fill);
         write!(
             to,
-            "lengths: line {line}, words {words}, sets {sets}; fill {fill}"
+            "lengths: line {line}, words {words}, sets {sets}, text {text}; place {place}; fill {fill}"
         )
     }
 }
@@ -295,13 +434,22 @@ impl Outcome {
         &self.words[MARGIN..][..self.reply as usize]
     }
 
+    /// The text that was written from this place on; there was no refusal.
+    fn written_text(&self, place: usize) -> &[u8] {
+        &self.text[MARGIN + place..][..self.reply as usize]
+    }
+
     pub fn describe(&self, name: &str) -> String {
         let (reply, kept) = (self.reply, self.input_kept);
         let line = self.line.escape_ascii();
         format!(
             "{name}: reply {reply:X}, input kept: {kept}\n  line with margins \"{line}\"\n  \
-             words with margins {:08X?}\n  sets with margins {:X?}",
-            self.words, self.sets
+             words with margins {:08X?}\n  sets with margins {:X?}\n  text with margins \"{}\"\n  \
+             numbers with margins {:X?}",
+            self.words,
+            self.sets,
+            self.text.escape_ascii(),
+            self.numbers
         )
     }
 }
@@ -327,14 +475,36 @@ pub fn frames(words: &str) -> Vec<u32> {
 /// So many frames are near the limit of the length.
 const LONG: usize = 4000;
 
+/// Boundaries of the calls that write a text, and read or write a verdict line; all must be met.
+pub const EDGES: [&str; 15] = [
+    "text written, exactly enough room",
+    "  from a later place",
+    "text refused, a byte less",
+    "  from a later place",
+    "no frame written, from the end",
+    "no frame refused, from the place beyond the end",
+    "text refused, place near the greatest number",
+    "unsound recording and no room",
+    "text written and read again",
+    "text read and written again",
+    "line with begin or commit absent read",
+    "line refused, its kind alone",
+    "line refused, a byte of 33",
+    "line refused, its length",
+    "line buffer short and kind refused",
+];
+
+/// A place from here on wraps with the bytes of some recording.
+const FAR: usize = usize::MAX - 9 * crate::MOST_FRAMES;
+
 #[derive(Default)]
 pub struct Tally {
     pub cases: usize,
     /// As in `possible_kinds`.
     pub kinds: [usize; 5],
-    pub refusals: [usize; 18],
+    pub refusals: [usize; 20],
     /// Refusals of the right recording.
-    pub right_refusals: [usize; 18],
+    pub right_refusals: [usize; 20],
     /// Violations of kind 1 or 4 with begin absent, begin alone, begin and commit.
     pub shapes: [usize; 3],
     /// Equal recordings in another order, unequal ones of one length, serial orders that are not
@@ -343,16 +513,21 @@ pub struct Tally {
     /// Recordings near the limit of the length that are equal in another order, or have a serial
     /// order that is not the recording.
     pub long_moved: usize,
+    /// Texts and verdict lines that were written and read again, or the other way round.
+    pub came_back: usize,
+    /// As in `EDGES`.
+    pub edges: [usize; EDGES.len()],
 }
 
 impl Tally {
     pub fn count(&mut self, case: &Case, outcome: &Outcome) {
         self.cases += 1;
+        self.came_back += usize::from(outcome.comes_back);
         let (call, reply) = (case.call, outcome.reply);
         let (high, low) = ((reply >> 32) as usize, reply as usize & 0xFFFF_FFFF);
         let (kind, refusal) = match call {
             Call::Equal => (low, high),
-            _ if !call.writes_line() => (0, high),
+            _ if !call.replies_kind() => (0, high),
             _ if reply >= 0x80 => (0, reply as usize - 0x80),
             _ => (reply as usize, 0),
         };
@@ -363,6 +538,11 @@ impl Tally {
         }
         if refusal == 0 {
             self.count_accepted(case, outcome, kind);
+        }
+        let texts = text_edges(case, outcome, refusal);
+        let met = texts.into_iter().chain(line_edges(case, outcome, refusal));
+        for (count, met) in self.edges.iter_mut().zip(met) {
+            *count += usize::from(met);
         }
     }
 
@@ -383,6 +563,7 @@ impl Tally {
             self.shapes[present(&places[..4]) + present(&places[4..])] += 1;
         }
     }
+
     /// Adds the counts of another tally.
     pub fn add(&mut self, other: &Tally) {
         let add = |to: &mut [usize], from: &[usize]| {
@@ -393,7 +574,49 @@ impl Tally {
         add(&mut self.right_refusals, &other.right_refusals);
         add(&mut self.shapes, &other.shapes);
         add(&mut self.moved, &other.moved);
+        add(&mut self.edges, &other.edges);
         self.cases += other.cases;
+        self.came_back += other.came_back;
         self.long_moved += other.long_moved;
     }
+}
+
+/// The first ten of `EDGES`.
+fn text_edges(case: &Case, outcome: &Outcome, refusal: usize) -> [bool; 10] {
+    let (bytes, place) = (9 * case.frames.len(), case.place);
+    let room = case.text_len.checked_sub(place);
+    let of_write = case.call == Call::Write;
+    let (written, refused) = (of_write && refusal == 0, of_write && refusal == 19);
+    let exact = written && bytes > 0 && room == Some(bytes);
+    let short = refused && bytes > 0 && room == Some(bytes - 1);
+    [
+        exact && place == 0,
+        exact && place > 0,
+        short && place == 0,
+        short && place > 0,
+        written && bytes == 0 && room == Some(0),
+        refused && bytes == 0 && place == case.text_len + 1,
+        refused && place > FAR,
+        of_write && (2..=10).contains(&refusal) && room < Some(bytes),
+        written && bytes > 0 && outcome.comes_back,
+        case.call == Call::Read && !case.text.is_empty() && outcome.comes_back,
+    ]
+}
+
+/// The others of `EDGES`.
+fn line_edges(case: &Case, outcome: &Outcome, refusal: usize) -> [bool; EDGES.len() - 10] {
+    let read = case.call == Call::LineRead && refusal == 0;
+    let refused = case.call == Call::LineRead && refusal == 18;
+    let fields = outcome.numbers.fields();
+    let whole = case.text.len() == LINE_BYTES;
+    let digit = |byte: &u8| b"0123456789ABCDEF".contains(byte);
+    let formed = || case.text[..32].iter().all(digit) && case.text[32] == b'\n';
+    let kind_refused = (0x05..=0x80).contains(&case.fields.kind);
+    [
+        read && (fields.begin == ABSENT || fields.commit == ABSENT),
+        refused && whole && formed(),
+        refused && whole && !formed(),
+        refused && !whole,
+        case.call == Call::LineWrite && refusal == 17 && kind_refused,
+    ]
 }

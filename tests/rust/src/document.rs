@@ -1,18 +1,37 @@
 //! The lines that docs/TOOL.md says `tracetool` prints. Some words in capitals stand for others.
 
-use trace_tests::words::{GUARD_LIST, LEFT, RECORDING, RIGHT};
+use trace_tests::words::{GUARD_LIST, LEFT, RECORDING, RIGHT, TEXT};
 
-pub const FILES: [&str; 4] = [RECORDING, GUARD_LIST, LEFT, RIGHT];
-const HOLES: [&str; 9] = [
-    "LINE", "PLACE", "T", "V", "N", "FILE", "ACTION", "LOCKS", "NAME",
+pub const FILES: [&str; 5] = [RECORDING, GUARD_LIST, LEFT, RIGHT, TEXT];
+const HOLES: [&str; 10] = [
+    "LINE", "PLACE", "T", "V", "N", "FILE", "ACTION", "LOCKS", "NAME", "NUMBER",
 ];
+
+/// What stands before the sections, and the sections.
+fn parts() -> (&'static str, &'static str) {
+    let document = include_str!("../../../docs/TOOL.md");
+    document.split_once("\n## ").expect("sections")
+}
+
+/// The indented lines of a part, each once.
+fn indented(part: &'static str) -> Vec<&'static str> {
+    let mut lines = Vec::new();
+    for line in part.lines().filter_map(|line| line.strip_prefix("    ")) {
+        if !lines.contains(&line) {
+            lines.push(line);
+        }
+    }
+    lines
+}
 
 /// All lines of the sections, without those on the program's use before them.
 pub fn templates() -> Vec<&'static str> {
-    let document = include_str!("../../../docs/TOOL.md");
-    let (_, sections) = document.split_once("\n## ").expect("sections");
-    let lines = sections.lines();
-    lines.filter_map(|line| line.strip_prefix("    ")).collect()
+    indented(parts().1)
+}
+
+/// How each command is used, and what it prints.
+pub fn uses() -> Vec<&'static str> {
+    indented(parts().0)
 }
 
 fn is_number(text: &str) -> bool {
@@ -55,9 +74,13 @@ fn first_hole(template: &str) -> Option<(&str, &str, &str)> {
     None
 }
 
+/// A line also fits where it is the template itself: a use names its words in capitals.
 pub fn fits(template: &str, line: &str) -> bool {
+    if template == line {
+        return true;
+    }
     let Some((before, hole, after)) = first_hole(template) else {
-        return template == line;
+        return false;
     };
     line.strip_prefix(before).is_some_and(|rest| {
         let mut ends = (0..=rest.len()).filter(|&end| rest.is_char_boundary(end));

@@ -2,6 +2,7 @@
 #![allow(dead_code)]
 
 use trace_tests::case::Implementation;
+use trace_tests::{Fields, FieldsOut};
 
 pub const LIBRARY: Implementation = Implementation {
     name: "library",
@@ -13,6 +14,9 @@ pub const LIBRARY: Implementation = Implementation {
     equal,
     serial_declared,
     serial_inferred,
+    write,
+    line_read,
+    line_write,
 };
 
 #[link(name = "trace", kind = "static")]
@@ -57,8 +61,39 @@ extern "C" {
     ) -> u64;
 }
 
-// SAFETY of each call: every pointer and length come from one slice, which is lent for the
-// time of the call; lent buffers are lent for writing and overlap nothing.
+#[link(name = "tracetext", kind = "static")]
+extern "C" {
+    fn trace_write(
+        words: *const u32,
+        words_len: usize,
+        text: *mut u8,
+        text_len: usize,
+        place: usize,
+    ) -> u64;
+    fn trace_line_read(
+        line: *const u8,
+        line_len: usize,
+        kind: *mut u8,
+        frame: *mut u16,
+        thread: *mut u8,
+        begin: *mut u16,
+        commit: *mut u16,
+        locks: *mut u64,
+    ) -> u64;
+    fn trace_line_write(
+        kind: u8,
+        frame: u16,
+        thread: u8,
+        begin: u16,
+        commit: u16,
+        locks: u64,
+        line: *mut u8,
+        line_len: usize,
+    ) -> u64;
+}
+
+// SAFETY of each call: every pointer and length come from one slice, or from one number, which is
+// lent for the time of the call; lent buffers are lent for writing and overlap nothing.
 
 pub fn check(text: &[u8], line: &mut [u8]) -> u8 {
     unsafe { trace_check(text.as_ptr(), text.len(), line.as_mut_ptr(), line.len()) }
@@ -117,4 +152,46 @@ pub fn serial_declared(list: &[u8], words: &[u32], out: &mut [u32]) -> u64 {
 
 pub fn serial_inferred(words: &[u32], out: &mut [u32]) -> u64 {
     unsafe { trace_serial_inferred(words.as_ptr(), words.len(), out.as_mut_ptr(), out.len()) }
+}
+
+pub fn write(words: &[u32], text: &mut [u8], place: usize) -> u64 {
+    unsafe {
+        trace_write(
+            words.as_ptr(),
+            words.len(),
+            text.as_mut_ptr(),
+            text.len(),
+            place,
+        )
+    }
+}
+
+pub fn line_read(line: &[u8], out: FieldsOut) -> u64 {
+    unsafe {
+        trace_line_read(
+            line.as_ptr(),
+            line.len(),
+            out.kind,
+            out.frame,
+            out.thread,
+            out.begin,
+            out.commit,
+            out.locks,
+        )
+    }
+}
+
+pub fn line_write(fields: Fields, line: &mut [u8]) -> u64 {
+    unsafe {
+        trace_line_write(
+            fields.kind,
+            fields.frame,
+            fields.thread,
+            fields.begin,
+            fields.commit,
+            fields.locks,
+            line.as_mut_ptr(),
+            line.len(),
+        )
+    }
 }

@@ -17,7 +17,7 @@ const MOST_THREAD: u8 = 31;
 const MOST_LOCK: u16 = 63;
 const MOST_VARIABLE: u16 = 1023;
 const MOST_DEPTH: u32 = 15;
-const ABSENT: usize = 0xFFFF;
+const ABSENT: u16 = 0xFFFF;
 /// Added to the number of a refusal of the right recording.
 const RIGHT_SIDE: u64 = 256;
 
@@ -33,17 +33,22 @@ fn refuse<T>(number: u8, place: usize) -> Result<T, Refusal> {
 
 // Text.
 
+/// The number of at most 16 digits.
+fn number(digits: &[u8]) -> Option<u64> {
+    digits.iter().try_fold(0, |number, &byte| match byte {
+        b'0'..=b'9' => Some(number * 16 + u64::from(byte - b'0')),
+        b'A'..=b'F' => Some(number * 16 + u64::from(byte - b'A') + 10),
+        _ => None,
+    })
+}
+
 /// The word on a line that is eight digits and an LF.
 fn word_of_line(line: &[u8]) -> Option<u32> {
     let digits = line.strip_suffix(b"\n")?;
     if digits.len() != 8 {
         return None;
     }
-    digits.iter().try_fold(0, |word, &byte| match byte {
-        b'0'..=b'9' => Some(word * 16 + u32::from(byte - b'0')),
-        b'A'..=b'F' => Some(word * 16 + u32::from(byte - b'A') + 10),
-        _ => None,
-    })
+    Some(number(digits)? as u32)
 }
 
 /// The lines of a text, each with its LF; the last one may lack it.
@@ -434,31 +439,74 @@ fn serial_places(
     Ok(units.into_iter().flat_map(|unit| unit.places).collect())
 }
 
+// The verdict line.
+
+/// The fields of a verdict line. An absent begin or commit is FFFF.
+#[derive(Clone, Copy, Debug, Default, PartialEq, Eq)]
+pub struct Fields {
+    pub kind: u8,
+    pub frame: u16,
+    pub thread: u8,
+    pub begin: u16,
+    pub commit: u16,
+    pub locks: u64,
+}
+
+impl Fields {
+    /// Of a line that is read or written.
+    fn kind_fits(&self) -> bool {
+        matches!(self.kind, 0x00..=0x04 | 0x81..=0xFF)
+    }
+
+    /// The line of these fields, whatever the kind.
+    pub fn line(&self) -> String {
+        format!(
+            "{:02X}{:04X}{:02X}{:04X}{:04X}{:016X}\n",
+            self.kind, self.frame, self.thread, self.begin, self.commit, self.locks
+        )
+    }
+
+    /// The fields of a line that is 32 digits and an LF, with a kind that fits.
+    pub fn of_line(line: &[u8]) -> Option<Fields> {
+        let digits = line.strip_suffix(b"\n")?;
+        if digits.len() != 32 {
+            return None;
+        }
+        let fields = Fields {
+            kind: number(&digits[..2])? as u8,
+            frame: number(&digits[2..6])? as u16,
+            thread: number(&digits[6..8])? as u8,
+            begin: number(&digits[8..12])? as u16,
+            commit: number(&digits[12..16])? as u16,
+            locks: number(&digits[16..])?,
+        };
+        fields.kind_fits().then_some(fields)
+    }
+}
+
 /// The kind as a number and the verdict line.
 pub fn verdict_line(reply: Result<Verdict, Refusal>) -> (u8, String) {
-    let fields = |kind, frame| Violation {
+    let place = |place: Option<usize>| place.map_or(ABSENT, |place| place as u16);
+    let without_violation = |kind, frame| Fields {
         kind,
-        frame,
-        thread: 0,
-        begin: None,
-        commit: None,
-        locks: 0,
+        frame: frame as u16,
+        begin: ABSENT,
+        commit: ABSENT,
+        ..Fields::default()
     };
-    let shown = match reply {
-        Ok(Verdict::Reducible { frames }) => fields(0, frames),
-        Ok(Verdict::Violation(violation)) => violation,
-        Err(refusal) => fields(0x80 + refusal.number, refusal.place),
+    let fields = match reply {
+        Ok(Verdict::Reducible { frames }) => without_violation(0, frames),
+        Ok(Verdict::Violation(violation)) => Fields {
+            kind: violation.kind,
+            frame: violation.frame as u16,
+            thread: violation.thread,
+            begin: place(violation.begin),
+            commit: place(violation.commit),
+            locks: violation.locks,
+        },
+        Err(refusal) => without_violation(0x80 + refusal.number, refusal.place),
     };
-    let line = format!(
-        "{:02X}{:04X}{:02X}{:04X}{:04X}{:016X}\n",
-        shown.kind,
-        shown.frame,
-        shown.thread,
-        shown.begin.unwrap_or(ABSENT),
-        shown.commit.unwrap_or(ABSENT),
-        shown.locks
-    );
-    (shown.kind, line)
+    (fields.kind, fields.line())
 }
 
 // The calls of the library.
@@ -570,4 +618,58 @@ pub fn serial_inferred(words: &[u32], out: &mut [u32]) -> u64 {
         let verdict = inferred_verdict(&frames).0;
         write_serial(words, &frames, verdict, |_| false, out)
     }))
+}
+
+pub fn write(words: &[u32], text: &mut [u8], place: usize) -> u64 {
+    packed(check_recording(words).and_then(|_| {
+        let lines: String = words.iter().map(|word| format!("{word:08X}\n")).collect();
+        let count = lines.len();
+        match text.get_mut(place..) {
+            Some(room) if room.len() >= count => {
+                room[..count].copy_from_slice(lines.as_bytes());
+                Ok(count)
+            }
+            _ => refuse(19, count),
+        }
+    }))
+}
+
+/// Where the fields of a line are written.
+pub struct FieldsOut<'a> {
+    pub kind: &'a mut u8,
+    pub frame: &'a mut u16,
+    pub thread: &'a mut u8,
+    pub begin: &'a mut u16,
+    pub commit: &'a mut u16,
+    pub locks: &'a mut u64,
+}
+
+impl FieldsOut<'_> {
+    pub fn set(self, fields: Fields) {
+        *self.kind = fields.kind;
+        *self.frame = fields.frame;
+        *self.thread = fields.thread;
+        *self.begin = fields.begin;
+        *self.commit = fields.commit;
+        *self.locks = fields.locks;
+    }
+}
+
+pub fn line_read(line: &[u8], out: FieldsOut) -> u64 {
+    let Some(fields) = Fields::of_line(line) else {
+        return packed(refuse(18, 0));
+    };
+    out.set(fields);
+    0
+}
+
+pub fn line_write(fields: Fields, line: &mut [u8]) -> u64 {
+    if line.len() < LINE_BYTES {
+        return packed(refuse(17, LINE_BYTES));
+    }
+    if !fields.kind_fits() {
+        return packed(refuse(18, 0));
+    }
+    line[..LINE_BYTES].copy_from_slice(fields.line().as_bytes());
+    LINE_BYTES as u64
 }

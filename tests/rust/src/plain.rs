@@ -1,6 +1,9 @@
-//! A plain safe checker with the behaviour of `trace_check`, `trace_equal` and the serial calls,
-//! for the benchmark. Text to words, soundness, verdict and line are separate passes; equality
-//! and serial orders take one more over places linked to lists. No heap, no unsafe.
+//! A plain safe checker with the behaviour of `trace_check`, `trace_equal`, the serial calls,
+//! `trace_write` and `trace_line_read`, for the benchmark. Text to words, soundness, verdict and
+//! line are separate passes, and so are soundness and text; equality and serial orders take one
+//! more over places linked to lists. No heap, no unsafe.
+
+use crate::{Fields, FieldsOut};
 
 const MOST_FRAMES: usize = 4096;
 const VARIABLES: usize = 1024;
@@ -10,13 +13,14 @@ const LINE_BYTES: usize = 33;
 const TEXT_LINE: usize = 9;
 const ABSENT: u16 = 0xFFFF;
 const NOT_A_DIGIT: u8 = 0xFF;
+const DIGITS: [u8; 16] = *b"0123456789ABCDEF";
 
 /// The value of each digit byte.
 const DIGIT: [u8; 256] = {
     let mut table = [NOT_A_DIGIT; 256];
     let mut value = 0;
     while value < 16 {
-        table[b"0123456789ABCDEF"[value] as usize] = value as u8;
+        table[DIGITS[value] as usize] = value as u8;
         value += 1;
     }
     table
@@ -222,7 +226,7 @@ fn write_line(reply: &Reply, line: &mut [u8; LINE_BYTES]) {
         | u64::from(reply.commit);
     for (place, byte) in line[..32].iter_mut().enumerate() {
         let half = if place < 16 { head } else { reply.locks };
-        *byte = b"0123456789ABCDEF"[(half >> (60 - 4 * (place & 15)) & 15) as usize];
+        *byte = DIGITS[(half >> (60 - 4 * (place & 15)) & 15) as usize];
     }
     line[32] = b'\n';
 }
@@ -460,4 +464,71 @@ pub fn serial_inferred(words: &[u32], out: &mut [u32]) -> u64 {
             }
         })
     }))
+}
+
+#[inline(always)]
+fn write_word(word: u32, line: &mut [u8]) {
+    for (place, byte) in line[..8].iter_mut().enumerate() {
+        *byte = DIGITS[(word >> (28 - 4 * place) & 15) as usize];
+    }
+    line[8] = b'\n';
+}
+
+pub fn write(words: &[u32], text: &mut [u8], place: usize) -> u64 {
+    packed(check_words(words).and_then(|()| {
+        let bytes = TEXT_LINE * words.len();
+        let room = text.get_mut(place..);
+        let Some(room) = room.and_then(|room| room.get_mut(..bytes)) else {
+            return refuse(19, bytes);
+        };
+        for (line, &word) in room.chunks_exact_mut(TEXT_LINE).zip(words) {
+            write_word(word, line);
+        }
+        Ok(bytes)
+    }))
+}
+
+/// The number of 16 digits.
+#[inline(always)]
+fn number_of_digits(digits: &[u8]) -> Option<u64> {
+    let mut value = 0;
+    let mut seen = 0;
+    for &byte in &digits[..16] {
+        let digit = DIGIT[usize::from(byte)];
+        seen |= digit;
+        value = value << 4 | u64::from(digit & 15);
+    }
+    (seen != NOT_A_DIGIT).then_some(value)
+}
+
+/// The fields of a verdict line; none is refusal 18.
+pub fn fields_of_line(line: &[u8]) -> Option<Fields> {
+    let line: &[u8; LINE_BYTES] = line.try_into().ok()?;
+    if line[32] != b'\n' {
+        return None;
+    }
+    let head = number_of_digits(&line[..16])?;
+    let locks = number_of_digits(&line[16..32])?;
+    let kind = (head >> 56) as u8;
+    if (0x05..=0x80).contains(&kind) {
+        return None;
+    }
+    Some(Fields {
+        kind,
+        frame: (head >> 40) as u16,
+        thread: (head >> 32) as u8,
+        begin: (head >> 16) as u16,
+        commit: head as u16,
+        locks,
+    })
+}
+
+pub fn line_read(line: &[u8], out: FieldsOut) -> u64 {
+    match fields_of_line(line) {
+        Some(fields) => {
+            out.set(fields);
+            0
+        }
+        None => packed(refuse(18, 0)),
+    }
 }

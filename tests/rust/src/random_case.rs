@@ -1,6 +1,7 @@
-//! Random cases of each call: recordings, their texts and guard lists, most of them sound, with
-//! lent buffers of fitting and of other lengths.
+//! Random cases of each call: recordings, their texts and guard lists, most of them sound, and
+//! verdict lines, with lent buffers of fitting and of other lengths.
 
+use crate::adversarial::{random_fields, random_line, random_room};
 use crate::case::{Call, Case};
 use crate::random::{self, text_of_words, Plan, Random};
 use crate::serial_inferred;
@@ -221,6 +222,16 @@ pub fn random_case(random: &mut Random, call: Call, long: bool) -> Case {
                 _ => count + random.below(20),
             };
         }
+        Call::Write => {
+            case.frames = match random.below(10) {
+                0 => Vec::new(),
+                1..4 => random_recording(random, call, long).words,
+                _ => random_units(random, call, long).words,
+            };
+            (case.text_len, case.place) = random_room(random, 9 * case.frames.len());
+        }
+        Call::LineRead => case.text = random_line(random),
+        Call::LineWrite => case.fields = random_fields(random),
     }
     case
 }

@@ -1,8 +1,12 @@
 //! Counts of answers by call, as a table.
 
-use crate::case::{Call, Tally, CALLS};
+use crate::case::{Call, Tally, CALLS, EDGES};
 
-/// What an answer is counted as. Lines and lists are accepted, serial orders written.
+/// A tally for each call.
+pub type Tallies = [Tally; CALLS.len()];
+
+/// What an answer is counted as. Lines and lists are accepted; serial orders, texts and verdict
+/// lines written.
 #[derive(Clone, Copy, Debug)]
 pub enum Answer {
     Kind(usize),
@@ -35,16 +39,22 @@ fn columns() -> Vec<Column> {
 
 impl Column {
     /// How often this was the answer; none if it cannot be.
-    fn count(&self, answer: Answer, tallies: &[Tally; 8]) -> Option<usize> {
+    fn count(&self, answer: Answer, tallies: &Tallies) -> Option<usize> {
         let (call, tally) = (self.call, &tallies[self.call as usize]);
         let kind = |of_call: bool, kind: usize| {
             let possible = of_call && !self.right && call.possible_kinds().contains(&kind);
             possible.then(|| tally.kinds[kind])
         };
         match answer {
-            Answer::Kind(number) => kind(call.writes_line(), number),
-            Answer::Accepted => kind(matches!(call, Call::Read | Call::Guards), 0),
-            Answer::Written => kind(call.is_serial(), 0),
+            Answer::Kind(number) => kind(call.replies_kind(), number),
+            Answer::Accepted => {
+                let accepts = matches!(call, Call::Read | Call::Guards | Call::LineRead);
+                kind(accepts, 0)
+            }
+            Answer::Written => {
+                let writes = matches!(call, Call::Write | Call::LineWrite);
+                kind(call.is_serial() || writes, 0)
+            }
             Answer::Equal => kind(call == Call::Equal, 1),
             Answer::Different => kind(call == Call::Equal, 0),
             Answer::Refusal(number) => {
@@ -60,7 +70,7 @@ impl Column {
 }
 
 /// Prints a row of the table; false if a column that can have the answer lacks it, or if none can.
-fn print_row(name: &str, answer: Answer, tallies: &[Tally; 8]) -> bool {
+fn print_row(name: &str, answer: Answer, tallies: &Tallies) -> bool {
     print!("{name:10}");
     let mut absent = Vec::new();
     let mut possible = false;
@@ -85,7 +95,7 @@ fn width(column: &Column) -> usize {
 }
 
 /// Prints the table; false if something that can occur did not.
-pub fn print_table(tallies: &[Tally; 8]) -> bool {
+pub fn print_table(tallies: &Tallies) -> bool {
     print!("{:10}", "");
     for column in columns() {
         print!("{:>width$}", column.name, width = width(&column));
@@ -100,14 +110,14 @@ pub fn print_table(tallies: &[Tally; 8]) -> bool {
     row("written", Answer::Written);
     row("equal", Answer::Equal);
     row("different", Answer::Different);
-    for number in 1..18 {
+    for number in 1..20 {
         row(&format!("refusal {number}"), Answer::Refusal(number));
     }
     complete
 }
 
 /// Answers in which frames have moved; false if there are none.
-pub fn print_moved(tallies: &[Tally; 8]) -> bool {
+pub fn print_moved(tallies: &Tallies) -> bool {
     let mut complete = true;
     for call in [Call::Equal, Call::SerialDeclared, Call::SerialInferred] {
         let tally = &tallies[call as usize];
@@ -122,8 +132,22 @@ pub fn print_moved(tallies: &[Tally; 8]) -> bool {
     complete
 }
 
+/// The boundaries of texts and verdict lines; false if one was not met.
+pub fn print_edges<'a>(tallies: impl IntoIterator<Item = &'a Tally>) -> bool {
+    let mut all = Tally::default();
+    tallies.into_iter().for_each(|tally| all.add(tally));
+    for (name, count) in EDGES.iter().zip(all.edges) {
+        println!("{name}: {count}");
+    }
+    let complete = !all.edges.contains(&0);
+    if !complete {
+        println!("FAILED: a boundary of texts or verdict lines was not met");
+    }
+    complete
+}
+
 /// Whether some call gave this answer.
-pub fn occurs(answer: Answer, tallies: &[Tally; 8]) -> bool {
+pub fn occurs(answer: Answer, tallies: &Tallies) -> bool {
     let counts = |column: &Column| column.count(answer, tallies);
     columns().iter().filter_map(counts).any(|count| count > 0)
 }

@@ -2,7 +2,7 @@
 
 use crate::{
     check_recording, declared_verdict, equal, inferred_verdict, read_guards, read_text,
-    serial_places, verdict_line, Frame, Refusal, Verdict, Violation,
+    serial_places, verdict_line, Fields, Frame, Refusal, Verdict, Violation, ABSENT,
 };
 use std::collections::BTreeMap;
 
@@ -10,6 +10,8 @@ pub const RECORDING: &str = "the recording";
 pub const GUARD_LIST: &str = "the guard list";
 pub const LEFT: &str = "the left recording";
 pub const RIGHT: &str = "the right recording";
+/// Of a kept line: a recording or a guard list.
+pub const TEXT: &str = "the text";
 
 /// The content of the file of a name, if it can be read.
 pub type Files<'a> = &'a dyn Fn(&[u8]) -> Option<Vec<u8>>;
@@ -32,6 +34,8 @@ fn command(words: &[&[u8]], files: Files) -> Result<String, Vec<u8>> {
             return Ok(compare(&left, &right));
         }
         [b"equal", ..] => return Err(b"use: tracetool equal LEFT RIGHT".to_vec()),
+        [b"line", line] => return Ok(explain_line(line)),
+        [b"line", ..] => return Err(b"use: tracetool line LINE".to_vec()),
         [b"verdict" | b"serial" | b"explain", recording] => (recording, None),
         [b"verdict" | b"serial" | b"explain", recording, b"--guards", list] => {
             (recording, Some(content(list, files)?))
@@ -63,12 +67,12 @@ fn content(name: &[u8], files: Files) -> Result<Vec<u8>, Vec<u8>> {
 struct Refused {
     refusal: Refusal,
     file: &'static str,
-    /// The word of the frame; 0 if there is none.
-    word: u32,
+    /// The word of the frame, where there is one and it is at hand.
+    word: Option<u32>,
 }
 
 fn refused(refusal: Refusal, file: &'static str, words: &[u32]) -> Refused {
-    let word = words.get(refusal.place).copied().unwrap_or(0);
+    let word = words.get(refusal.place).copied();
     Refused {
         refusal,
         file,
@@ -146,16 +150,49 @@ fn compare(left: &[u8], right: &[u8]) -> String {
 fn explain(recording: &[u8], list: Option<&[u8]>) -> String {
     match judge(recording, list) {
         Ok(judged) => match judged.verdict {
-            Verdict::Reducible { frames } => {
-                format!("reducible: no frame goes wrong; frames: {frames}.\n")
-            }
-            Verdict::Violation(violation) => violation_text(&violation, &judged.words),
+            Verdict::Reducible { frames } => reducible_text(frames),
+            Verdict::Violation(violation) => violation_text(&violation, Some(&judged.words)),
         },
         Err(refused) => refusal_text(&refused),
     }
 }
 
+/// A kept verdict line; the word is its digits.
+fn explain_line(word: &[u8]) -> String {
+    let refused_by = |number, place| {
+        let file = match number {
+            1 => TEXT,
+            11 | 12 => GUARD_LIST,
+            _ => RECORDING,
+        };
+        refusal_text(&refused(Refusal { number, place }, file, &[]))
+    };
+    let Some(fields) = Fields::of_line(&[word, b"\n"].concat()) else {
+        return refused_by(18, 0);
+    };
+    let place = |place: u16| (place != ABSENT).then_some(place.into());
+    match fields.kind {
+        0 => reducible_text(fields.frame.into()),
+        kind @ 1..=4 => {
+            let violation = Violation {
+                kind,
+                frame: fields.frame.into(),
+                thread: fields.thread,
+                begin: place(fields.begin),
+                commit: place(fields.commit),
+                locks: fields.locks,
+            };
+            violation_text(&violation, None)
+        }
+        kind => refused_by(kind - 0x80, fields.frame.into()),
+    }
+}
+
 // Texts.
+
+fn reducible_text(frames: usize) -> String {
+    format!("reducible: no frame goes wrong; frames: {frames}.\n")
+}
 
 fn line_at(place: usize) -> String {
     format!("line {} [{place}]", place + 1)
@@ -183,8 +220,13 @@ fn locks_text(locks: u64) -> String {
     }
 }
 
-fn violation_text(violation: &Violation, words: &[u32]) -> String {
+/// Of a kept line there are no words, and so no actions and no variables.
+fn violation_text(violation: &Violation, words: Option<&[u32]>) -> String {
     let (thread, place) = (violation.thread, violation.frame);
+    let acted = |place: usize| {
+        let action = words.map_or(String::new(), |words| format!(": {}", action(words[place])));
+        format!("{}{action}", line_at(place))
+    };
     let kind = match violation.kind {
         1 => "kind 1, guard not held",
         2 => "kind 2, unprotected access after commit",
@@ -200,16 +242,18 @@ fn violation_text(violation: &Violation, words: &[u32]) -> String {
             )
         }
         (Some(begin), Some(commit)) => format!(
-            "  The block begins at {}.\n  It commits at {}: {}.\n",
+            "  The block begins at {}.\n  It commits at {}.\n",
             line_at(begin),
-            line_at(commit),
-            action(words[commit])
+            acted(commit)
         ),
     };
-    let (line, action) = (line_at(place), action(words[place]));
-    let reason = reason(violation, words[place] & 0xFFFF);
+    let wrong = acted(place);
+    let reason = match words {
+        Some(words) => reason(violation, words[place] & 0xFFFF),
+        None => line_reason(violation),
+    };
     format!(
-        "violation: {kind}, by thread {thread}.\n{block}  It goes wrong at {line}: {action}.\n  {reason}\n"
+        "violation: {kind}, by thread {thread}.\n{block}  It goes wrong at {wrong}.\n  {reason}\n"
     )
 }
 
@@ -234,17 +278,48 @@ fn reason(violation: &Violation, variable: u32) -> String {
     }
 }
 
+/// As far as a kept line tells it.
+fn line_reason(violation: &Violation) -> String {
+    let (thread, locks) = (violation.thread, locks_text(violation.locks));
+    match violation.kind {
+        1 => format!(
+            "The guard of the variable is lock {locks}, and thread {thread} does not hold it: \
+             another thread may access the variable at the same time."
+        ),
+        2 => "The variable has no guard: another thread may change it, or what the block accessed \
+              before, between these lines."
+            .into(),
+        3 => format!(
+            "A block takes no lock after its commit, here lock {locks}: between these lines another \
+             thread may change what the block has read or written."
+        ),
+        _ => format!(
+            "Locks left that may guard the variable: {locks}. Thread {thread} holds none of them, so \
+             no one lock guards every access of the variable."
+        ),
+    }
+}
+
 fn refusal_text(refused: &Refused) -> String {
     let Refusal { number, place } = refused.refusal;
     let line = format!("{} of {}", line_at(place), refused.file);
-    let (file, thread) = (refused.file, refused.word >> 16 & 255);
-    let frame = format!("{line}, {} by thread {thread}", action(refused.word));
+    let file = refused.file;
+    // The frame, the thread of whose lock it is, and the thread of whose block.
+    let (frame, holder, thread) = match refused.word {
+        Some(word) => {
+            let thread = word >> 16 & 255;
+            let frame = format!("{line}, {} by thread {thread},", action(word));
+            (frame, "this thread", format!("thread {thread}"))
+        }
+        None => (line.clone(), "its thread", "its thread".into()),
+    };
     let reason = match number {
         1 => format!(
             "{line} is not eight digits 0-9 A-F and one LF; write it so, without blanks, lower case \
              or CR, and end the last line."
         ),
-        2 => format!("{file} has more than 4096 lines; cut it down to 4096."),
+        2 => format!("{file} has more than {place} lines; cut it down to {place}."),
+        3 => format!("the word buffer has fewer than {place} words; lend one for each line."),
         4 => format!("{line} has an operation other than 01 to 06; mend its digits 1 and 2."),
         5 => format!("{line} has a thread above 1F; mend its digits 3 and 4."),
         6 => format!(
@@ -252,16 +327,14 @@ fn refusal_text(refused: &Refused) -> String {
              begin or an end has 0000."
         ),
         7 => format!(
-            "{frame}, takes a lock that is held already; release it before this line."
+            "{frame} takes a lock that is held already; release it before this line."
         ),
         8 => format!(
-            "{frame}, lets go a lock that this thread does not hold; acquire it first or drop the \
-             line."
+            "{frame} lets go a lock that {holder} does not hold; acquire it first or drop the line."
         ),
-        9 => format!("{line} is a begin inside 15 open blocks of thread {thread}; nest at most 15."),
+        9 => format!("{line} is a begin inside 15 open blocks of {thread}; nest at most 15."),
         10 => format!(
-            "{line} is an end where thread {thread} has no open block; add its begin or drop the \
-             line."
+            "{line} is an end where {thread} has no open block; add its begin or drop the line."
         ),
         11 => format!(
             "{line} names a variable above 03FF or a lock above 003F; mend the number."
@@ -273,7 +346,16 @@ fn refusal_text(refused: &Refused) -> String {
             line_at(place)
         ),
         14 => format!("the block that begins at {line} is open at the end; add its end."),
-        _ => unreachable!("the tool lends enough of everything"),
+        15 => format!("the output has fewer than {place} words; lend one for each frame."),
+        16 => format!(
+            "the table of candidate sets has fewer than {place} entries; lend {place}."
+        ),
+        17 => format!("the line buffer has fewer than {place} bytes; lend {place}."),
+        18 => "this is no verdict line: that has 32 digits 0-9 A-F, the first two 00 to 04 or 81 to \
+               FF, and one LF; hand it on as it was written."
+            .into(),
+        19 => format!("the text has fewer than {place} bytes from the given place on; lend them."),
+        _ => format!("which this check does not give; its place is {place}."),
     };
     format!("refused: number {number}, {reason}\n")
 }

@@ -1,5 +1,7 @@
 use mathlib.Core.Path.{ap, _∙_}
 use Rattle.line.specs.declared.Fields.{Fields}
+use Rattle.line.specs.Line.{replyFields}
+use Rattle.line.proofs.Laws.{held-line}
 use Rattle.answer.proofs.Laws.{kind-of}
 use borrow.Author.Needs.{needs}
 use Rattle.answer.proofs.answer.Statement.{statement}
@@ -21,7 +23,7 @@ returns : tie.Need-returns
 returns c =
     let a = c .before .before .before .before .before .before .before .args in
     let f = c .before .before .before .before .before .reply-fields .ensures in
-    (ap (λ (x : Fields). x .kind) f ∙ kind-of (a .r) (a .frames), rw (c .before .before .before .before .fields-line .ensures, f) at (c .before .before .put-line .ensures))
+    (ap (λ (x : Fields). x .kind) f ∙ kind-of (a .r) (a .frames), rw (c .before .before .before .before .fields-line .ensures, f, held-line (replyFields (a .r) (a .frames))) at (c .before .before .put-line .ensures))
 
 pub answer-spec : {M : Type 1} → statement M
 answer-spec =

@@ -1,8 +1,8 @@
 -- Help, and one case for each command.
 use mathlib.Core.Path.{sym, _∙_}
-use borrow.Author.Needs.{needs}
 use borrow.Author.Tests.{eq-eqb, ne-eqb, lt-ltb, le-ltb}
 use Rattle.command.specs.Command.{requestOf}
+use borrow.Author.Needs.{needs}
 use Rattle.command.proofs.request_of.Statement.{statement}
 use Rattle.command.proofs.request_of.Tie as tie
 
@@ -45,27 +45,40 @@ enum-told-5 c = search needs
 returns-3 : tie.Need-returns-3
 unfolding requestOf
 returns-3 c =
-    rw (le-ltb _ _ (c .before .before .before .before .if1 .left), sym (c .before .before .before .command-of .ensures) ∙ c .before .enum-told .given .1) (c .judge .ensures)
+    rw (le-ltb _ _ (c .before .before .before .before .if1 .left), sym (c .before .before .before .command-of .ensures) ∙ c .before .enum-told5 .given .1, eq-eqb _ _ (c .if3 .taken))
+
+enum-told-6 : tie.Need-enum-told-6
+enum-told-6 c = search needs
 
 returns-4 : tie.Need-returns-4
 unfolding requestOf
 returns-4 c =
-    rw (le-ltb _ _ (c .before .before .before .before .if1 .left), sym (c .before .before .before .command-of .ensures) ∙ c .before .enum-told2 .given .1) (c .judge2 .ensures)
+    rw (le-ltb _ _ (c .before .before .before .before .if1 .left), sym (c .before .before .before .command-of .ensures) ∙ c .before .enum-told .given .1) (c .judge .ensures)
 
 returns-5 : tie.Need-returns-5
 unfolding requestOf
 returns-5 c =
-    rw (le-ltb _ _ (c .before .before .before .before .if1 .left), sym (c .before .before .before .command-of .ensures) ∙ c .before .enum-told3 .given .1) (c .judge3 .ensures)
+    rw (le-ltb _ _ (c .before .before .before .before .if1 .left), sym (c .before .before .before .command-of .ensures) ∙ c .before .enum-told2 .given .1) (c .judge2 .ensures)
 
 returns-6 : tie.Need-returns-6
 unfolding requestOf
 returns-6 c =
-    rw (le-ltb _ _ (c .before .before .before .before .if1 .left), sym (c .before .before .before .command-of .ensures) ∙ c .before .enum-told4 .given .1, ne-eqb _ _ (c .if2 .left))
+    rw (le-ltb _ _ (c .before .before .before .before .if1 .left), sym (c .before .before .before .command-of .ensures) ∙ c .before .enum-told3 .given .1) (c .judge3 .ensures)
 
 returns-7 : tie.Need-returns-7
 unfolding requestOf
 returns-7 c =
-    rw (le-ltb _ _ (c .before .before .before .if1 .left), sym (c .before .before .command-of .ensures) ∙ c .enum-told5 .given .1)
+    rw (le-ltb _ _ (c .before .before .before .before .if1 .left), sym (c .before .before .before .command-of .ensures) ∙ c .before .enum-told4 .given .1, ne-eqb _ _ (c .if2 .left))
+
+returns-8 : tie.Need-returns-8
+unfolding requestOf
+returns-8 c =
+    rw (le-ltb _ _ (c .before .before .before .before .if1 .left), sym (c .before .before .before .command-of .ensures) ∙ c .before .enum-told5 .given .1, ne-eqb _ _ (c .if3 .left))
+
+returns-9 : tie.Need-returns-9
+unfolding requestOf
+returns-9 c =
+    rw (le-ltb _ _ (c .before .before .before .if1 .left), sym (c .before .before .command-of .ensures) ∙ c .enum-told6 .given .1)
 
 pub request-of-spec : {M : Type 1} → statement M
 request-of-spec =
@@ -83,7 +96,10 @@ request-of-spec =
     returns-2
     enum-told-5
     returns-3
+    enum-told-6
     returns-4
     returns-5
     returns-6
-    returns-7)
+    returns-7
+    returns-8
+    returns-9)

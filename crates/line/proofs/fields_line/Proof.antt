@@ -3,6 +3,8 @@ use Rattle.line.proofs.Laws.{fields-written}
 use borrow.Author.Needs.{needs}
 use Rattle.line.proofs.fields_line.Statement.{statement}
 use Rattle.line.proofs.fields_line.Tie as tie
+use Rattle.digits.proofs.put.Reads as put-reads
+use Rattle.line.proofs.mark_field.Reads as mark-field-reads
 
 slice-aggregate-put : tie.Need-slice-aggregate-put
 slice-aggregate-put c = search needs
@@ -34,6 +36,9 @@ put-requires-3 c κs = search needs
 slice-aggregate-put-4 : tie.Need-slice-aggregate-put-4
 slice-aggregate-put-4 c = search needs
 
+mark-field-requires : tie.Need-mark-field-requires
+mark-field-requires c κs = search needs
+
 cast-put-4 : tie.Need-cast-put-4
 cast-put-4 c = search needs
 
@@ -42,6 +47,9 @@ put-requires-4 c κs = search needs
 
 slice-aggregate-put-5 : tie.Need-slice-aggregate-put-5
 slice-aggregate-put-5 c = search needs
+
+mark-field-requires-2 : tie.Need-mark-field-requires-2
+mark-field-requires-2 c κs = search needs
 
 cast-put-5 : tie.Need-cast-put-5
 cast-put-5 c = search needs
@@ -61,8 +69,8 @@ returns c =
     (c .before .before .before .before .before .before .before .before .before .before .before .before .before .before .before .before .before .before .before .before .put .ensures)
     (c .before .before .before .before .before .before .before .before .before .before .before .before .before .before .before .before .put2 .ensures)
     (c .before .before .before .before .before .before .before .before .before .before .before .before .put3 .ensures)
-    (c .before .before .before .before .before .before .before .before .put4 .ensures)
-    (c .before .before .before .before .put5 .ensures)
+    (rw (c .before .before .before .before .before .before .before .before .before .mark-field .ensures) at (c .before .before .before .before .before .before .before .before .put4 .ensures))
+    (rw (c .before .before .before .before .before .mark-field2 .ensures) at (c .before .before .before .before .put5 .ensures))
     (c .before .put6 .ensures)
 
 pub fields-line-spec : {M : Type 1} → statement M
@@ -79,9 +87,11 @@ fields-line-spec =
     cast-put-3
     put-requires-3
     slice-aggregate-put-4
+    mark-field-requires
     cast-put-4
     put-requires-4
     slice-aggregate-put-5
+    mark-field-requires-2
     cast-put-5
     put-requires-5
     slice-aggregate-put-6

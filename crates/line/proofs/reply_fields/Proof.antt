@@ -4,6 +4,11 @@ use Rattle.frame.proofs.Laws.{number-small}
 use borrow.Author.Needs.{needs}
 use Rattle.line.proofs.reply_fields.Statement.{statement}
 use Rattle.line.proofs.reply_fields.Tie as tie
+use Rattle.frame.proofs.refusal_number.Reads as refusal-number-reads
+use Rattle.line.proofs.bare_fields.Reads as bare-fields-reads
+use Rattle.line.proofs.held_place.Reads as held-place-reads
+use Rattle.line.proofs.line_mark.Reads as line-mark-reads
+use Rattle.reply.proofs.kind_number.Reads as kind-number-reads
 
 enum-known-r : tie.Need-enum-known-r
 enum-known-r c = search needs
@@ -32,11 +37,14 @@ enum-known-v c = search needs
 kind-number-requires : tie.Need-kind-number-requires
 kind-number-requires c κs = search needs
 
-mark-field-requires : tie.Need-mark-field-requires
-mark-field-requires c κs = search needs
+held-place-requires : tie.Need-held-place-requires
+held-place-requires c κs = search needs
 
-mark-field-requires-2 : tie.Need-mark-field-requires-2
-mark-field-requires-2 c κs = search needs
+line-mark-requires : tie.Need-line-mark-requires
+line-mark-requires c κs = search needs
+
+line-mark-requires-2 : tie.Need-line-mark-requires-2
+line-mark-requires-2 c κs = search needs
 
 returns : tie.Need-returns
 returns c = rw (c .before .before .before .r .given .1, c .bare-fields .ensures, c .before .refusal-number .ensures)
@@ -47,7 +55,7 @@ returns-2 c =
 
 returns-3 : tie.Need-returns-3
 returns-3 c =
-    simp (c .before .before .before .before .before .before .before .r2 .given .1, c .before .before .before .before .v .given .1, c .before .before .kind-number .ensures, c .before .mark-field .ensures, c .mark-field2 .ensures)
+    simp (c .before .before .before .before .before .before .before .before .r2 .given .1, c .before .before .before .before .before .v .given .1, c .before .before .before .kind-number .ensures, c .before .before .held-place .ensures, c .before .line-mark .ensures, c .line-mark2 .ensures)
 
 pub reply-fields-spec : {M : Type 1} → statement M
 reply-fields-spec =
@@ -62,8 +70,9 @@ reply-fields-spec =
     bare-fields-requires-2
     enum-known-v
     kind-number-requires
-    mark-field-requires
-    mark-field-requires-2
+    held-place-requires
+    line-mark-requires
+    line-mark-requires-2
     returns
     returns-2
     returns-3)

@@ -9,7 +9,7 @@ use lib.ListN.{length, drop, getD, drop-of-length-le}
 use lib.Seq.{drop-cons}
 use Rattle.digits.proofs.Writing.{length-word-line}
 use Rattle.output.proofs.Laws.{Put, put-none, put-more}
-use Rattle.serialreport.specs.SerialReport.{linesOf}
+use Rattle.digits.specs.Digits.{linesOf}
 use Rattle.serialreport.proofs.put_words.Statement.{statement}
 use Rattle.serialreport.proofs.put_words.Tie as tie
 

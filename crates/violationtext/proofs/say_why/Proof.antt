@@ -1,19 +1,16 @@
--- The line of the kind's number is its sentence.
+-- The line of the kind is its sentence.
 use mathlib.Core.Path.{sym}
-use borrow.Author.Needs.{needs}
 use Rattle.output.specs.Output.{bytes}
-use Rattle.violationtext.proofs.Sentences.{kind-numbered, why-line}
+use Rattle.violationtext.proofs.Sentences.{why-line}
+use borrow.Author.Needs.{needs}
 use Rattle.violationtext.proofs.say_why.Statement.{statement}
 use Rattle.violationtext.proofs.say_why.Tie as tie
 
-kind-number-requires : tie.Need-kind-number-requires
-kind-number-requires c κs = search needs
+why-line-requires : tie.Need-why-line-requires
+why-line-requires c κs = search needs
 
 slice-aggregate-nth-line : tie.Need-slice-aggregate-nth-line
 slice-aggregate-nth-line c = search needs
-
-sub-nth-line : tie.Need-sub-nth-line
-sub-nth-line c = rw (c .before .kind-number .ensures) (kind-numbered (c .before .before .before .args .kind))
 
 nth-line-requires : tie.Need-nth-line-requires
 nth-line-requires c κs = search needs
@@ -27,16 +24,15 @@ same-length c = search needs
 returns : tie.Need-returns
 unfolding bytes
 returns c =
-    let r = c .before .before .before .before .before .before .before .before .args .kind in
-    rw (sym (why-line r)) (rw (c .before .before .before .before .nth-line .ensures, c .before .before .before .before .before .before .kind-number .ensures) at (c .before .before .say .ensures))
+    let a = c .before .before .before .before .before .before .before .before .args in
+    rw (sym (why-line (a .kind) (a .known))) (rw (c .before .before .before .before .nth-line .ensures, c .before .before .before .before .before .before .why-line .ensures) at (c .before .before .say .ensures))
 
 pub say-why-spec : {M : Type 1} → statement M
 say-why-spec =
     tie.close
     (tie.spec
-    kind-number-requires
+    why-line-requires
     slice-aggregate-nth-line
-    sub-nth-line
     nth-line-requires
     say-requires
     same-length

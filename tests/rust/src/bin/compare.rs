@@ -3,12 +3,14 @@
 //! Arguments: an optional seed.
 
 use std::process::exit;
+use trace_tests::adversarial::{near_lines, rooms, EDGE_KINDS, EDGE_PLACES};
 use trace_tests::case::{
     frames, text, Call, Case, Implementation, Outcome, Tally, CALLS, MARGIN, REFERENCE,
 };
 use trace_tests::random::{self, text_of_words, Random};
 use trace_tests::random_case::{random_case, random_recording, random_right};
-use trace_tests::{brute_equal, equal, plain, LINE_BYTES, VARIABLES};
+use trace_tests::table::print_edges;
+use trace_tests::{brute_equal, equal, plain, Fields, LINE_BYTES, VARIABLES};
 
 #[path = "../ffi.rs"]
 mod ffi;
@@ -31,15 +33,35 @@ const PLAIN: Implementation = Implementation {
     equal: plain::equal,
     serial_declared: plain::serial_declared,
     serial_inferred: plain::serial_inferred,
+    write: plain::write,
+    line_read: plain::line_read,
     ..REFERENCE
 };
 
-const PLAIN_CALLS: [Call; 4] = [
+const PLAIN_CALLS: [Call; 6] = [
     Call::Check,
     Call::Equal,
     Call::SerialDeclared,
     Call::SerialInferred,
+    Call::Write,
+    Call::LineRead,
 ];
+
+/// No call at all: the buffers as they were lent.
+const NOTHING: Implementation = Implementation {
+    name: "untouched",
+    check: |_, _| 0,
+    read: |_, _| 0,
+    guards: |_| 0,
+    declared: |_, _, _| 0,
+    inferred: |_, _, _| 0,
+    equal: |_, _| 0,
+    serial_declared: |_, _, _| 0,
+    serial_inferred: |_, _| 0,
+    write: |_, _, _| 0,
+    line_read: |_, _| 0,
+    line_write: |_, _| 0,
+};
 
 /// The outcome of the reference, which the library and the plain checker must share.
 fn compare(case: &Case) -> Outcome {
@@ -65,18 +87,7 @@ impl Literals {
     /// Each implementation must give this reply and hold for `sound`.
     fn expect(&mut self, case: Case, reply: u64, sound: &dyn Fn(&Outcome, &Outcome) -> bool) {
         self.checked += 1;
-        // No call at all: the buffers as they were lent.
-        let untouched = case.run(&Implementation {
-            check: |_, _| 0,
-            read: |_, _| 0,
-            guards: |_| 0,
-            declared: |_, _, _| 0,
-            inferred: |_, _, _| 0,
-            equal: |_, _| 0,
-            serial_declared: |_, _, _| 0,
-            serial_inferred: |_, _| 0,
-            name: "untouched",
-        });
+        let untouched = case.run(&NOTHING);
         for implementation in [&REFERENCE, &PLAIN, &LIBRARY] {
             let outcome = case.run(implementation);
             if outcome.reply != reply || !outcome.input_kept || !sound(&outcome, &untouched) {
@@ -224,6 +235,64 @@ impl Literals {
         for out_len in [0, frames.len(), frames.len() + 5] {
             let refusal = number << 32 | place;
             self.serial_raw(list.as_deref(), &frames, out_len, refusal, &[]);
+        }
+    }
+
+    /// These words are written from a place on into a text of this length.
+    fn write(&mut self, words: &[u32], text_len: usize, place: usize) {
+        let text = text_of_words(words);
+        self.write_raw(words, (text_len, place), text.len() as u64, &text);
+    }
+
+    /// Nothing is written.
+    fn write_refused(&mut self, words: &[u32], room: (usize, usize), number: u64, at: u64) {
+        self.write_raw(words, room, number << 32 | at, b"");
+    }
+
+    fn write_raw(&mut self, words: &[u32], room: (usize, usize), reply: u64, text: &[u8]) {
+        let mut case = Case::new(Call::Write);
+        case.frames = words.to_vec();
+        (case.text_len, case.place) = room;
+        self.expect(case, reply, &|outcome, before| {
+            let mut text_after = before.text.clone();
+            if !text.is_empty() {
+                text_after[MARGIN + room.1..][..text.len()].copy_from_slice(text);
+            }
+            outcome.text == text_after
+        });
+    }
+
+    /// No fields: refused by 18, and the numbers stay.
+    fn line_read(&mut self, line: &[u8], fields: Option<Fields>) {
+        let mut case = Case::new(Call::LineRead);
+        (case.text, case.fill) = (line.to_vec(), self.checked as u64);
+        let reply = if fields.is_some() { 0 } else { 18 << 32 };
+        self.expect(case, reply, &|outcome, before| {
+            let mut numbers_after = before.numbers.clone();
+            if let Some(fields) = fields {
+                numbers_after.set(fields);
+            }
+            outcome.numbers == numbers_after
+        });
+    }
+
+    /// Refused by 17, by 18, or written as this line.
+    fn line_write(&mut self, fields: Fields, line: Option<&[u8]>) {
+        for line_len in [0, 1, 32, 33, 34, 40] {
+            let mut case = Case::new(Call::LineWrite);
+            (case.fields, case.line_len) = (fields, line_len);
+            let (reply, written) = match line {
+                _ if line_len < LINE_BYTES => (17 << 32 | 33, None),
+                None => (18 << 32, None),
+                Some(_) => (33, line),
+            };
+            self.expect(case, reply, &|outcome, before| {
+                let mut line_after = before.line.clone();
+                if let Some(line) = written {
+                    line_after[MARGIN..][..LINE_BYTES].copy_from_slice(line);
+                }
+                outcome.line == line_after
+            });
         }
     }
 
@@ -664,7 +733,184 @@ fn lines_and_lists(to: &mut Literals) {
     to.guards(&[&whole, &b"\n"[..]].concat(), 1 << 32 | 1024);
 }
 
+fn written_texts(to: &mut Literals) {
+    // Two frames from place 3 into 21 bytes; from place 4, or into 20.
+    let two = frames("05000000 06000000");
+    to.write(&two, 21, 3);
+    to.write_refused(&two, (21, 4), 19, 18);
+    to.write_refused(&two, (20, 3), 19, 18);
+    // No frame from place 5 into 5 bytes; from place 6.
+    to.write(&[], 5, 5);
+    to.write_refused(&[], (5, 6), 19, 0);
+    // Both sides of each boundary, and places that no text has.
+    for words in [
+        "",
+        "03000005",
+        "05000000 06000000",
+        "0100003F 030003FF 051F0000",
+    ] {
+        let words = frames(words);
+        let bytes = 9 * words.len();
+        for (text_len, place) in rooms(bytes) {
+            if place <= text_len && bytes <= text_len - place {
+                to.write(&words, text_len, place);
+            } else {
+                to.write_refused(&words, (text_len, place), 19, bytes as u64);
+            }
+        }
+    }
+    // Digits; not reducible; not closed.
+    let words = frames("041F03FF 0119003B 0219003B");
+    to.write_raw(&words, (27, 0), 27, b"041F03FF\n0119003B\n0219003B\n");
+    to.write(&frames("05000000 03000005 03000005"), 40, 13);
+    to.write(&frames("05000000"), 9, 0);
+    // Unsound recordings come before the room.
+    for (words, number, place) in [
+        ("05000000 00000000", 4, 1),
+        ("07000000", 4, 0),
+        ("05200000", 5, 0),
+        ("01000040", 6, 0),
+        ("03000400", 6, 0),
+        ("05000001", 6, 0),
+        ("01000003 01010003", 7, 1),
+        ("01000003 02010003", 8, 1),
+        (&"05000000 ".repeat(16), 9, 15),
+        ("05000000 06000000 06000000", 10, 2),
+    ] {
+        let words = frames(words);
+        for room in [
+            (0, 0),
+            (0, usize::MAX),
+            (5, 6),
+            (9 * words.len(), 0),
+            (200, 3),
+        ] {
+            to.write_refused(&words, room, number, place);
+        }
+    }
+    // 2 and the limits of the length.
+    let most = [0x0500_0000, 0x0600_0000].repeat(2048);
+    let more = [most.as_slice(), &[0xFFFF_FFFF]].concat();
+    let bytes = 9 * 4096;
+    to.write(&most, bytes, 0);
+    to.write(&most, bytes + 20, 7);
+    to.write(&most[..4095], bytes - 9, 0);
+    for room in [
+        (bytes - 1, 0),
+        (bytes, 1),
+        (bytes + 7, 8),
+        (0, 0),
+        (0, usize::MAX),
+    ] {
+        to.write_refused(&most, room, 19, 36_864);
+    }
+    let wraps = usize::MAX - bytes + 1;
+    to.write_refused(&most, (bytes, wraps), 19, 36_864);
+    for room in [(0, 0), (bytes, 0), (bytes + 9, 0), (0, usize::MAX)] {
+        to.write_refused(&more, room, 2, 4096);
+    }
+}
+
+fn verdict_lines(to: &mut Literals) {
+    let example = Fields {
+        kind: 3,
+        frame: 4,
+        thread: 1,
+        begin: 0,
+        commit: 3,
+        locks: 1,
+    };
+    let line = b"03000401000000030000000000000001\n";
+    to.line_read(line, Some(example));
+    to.line_write(example, Some(line));
+    // Each digit of a field at its place; absent begin and commit; all at their greatest.
+    for (digits, [frame, thread, begin, commit], locks) in [
+        (
+            "8112345678ABCDEF0123456789ABCDEF",
+            [0x1234, 0x56, 0x78AB, 0xCDEF],
+            0x0123_4567_89AB_CDEF,
+        ),
+        ("810000000000FFFF0000000000000000", [0, 0, 0, 0xFFFF], 0),
+        ("81000000FFFF00000000000000000000", [0, 0, 0xFFFF, 0], 0),
+        (
+            "81000000FFFEFFFE8000000000000000",
+            [0, 0, 0xFFFE, 0xFFFE],
+            1 << 63,
+        ),
+        (
+            "81FFFFFFFFFFFFFFFFFFFFFFFFFFFFFF",
+            [0xFFFF, 0xFF, 0xFFFF, 0xFFFF],
+            u64::MAX,
+        ),
+    ] {
+        for kind in 0..=255 {
+            let fields = Fields {
+                kind,
+                frame,
+                thread: thread as u8,
+                begin,
+                commit,
+                locks,
+            };
+            // Kinds 00 to 04 and 81 to FF, whatever the other fields.
+            let line = format!("{kind:02X}{}\n", &digits[2..]).into_bytes();
+            let fits = kind <= 4 || kind >= 0x81;
+            to.line_read(&line, fits.then_some(fields));
+            to.line_write(fields, fits.then_some(&line));
+        }
+    }
+    // The kinds of the table, the lengths and a lower-case digit.
+    let rest = "000100FFFFFFFF0000000000000000";
+    for kind in ["05", "80", "0a", "8a", "fF", "Ff", "G0", " 0", "0 ", "+1"] {
+        to.line_read(format!("{kind}{rest}\n").as_bytes(), None);
+    }
+    for text in [
+        &b""[..],
+        b"\n",
+        &line[..32],
+        &line[1..],
+        b"03000401000000030000000000000001\n\n",
+        b"03000401000000030000000000000001\r",
+        b"03000401000000030000000000000001\r\n",
+        b"030004010000000300000000000000010",
+        b"030004010000000300000000000000010\n",
+        b"0300040100000003\n000000000000001\n",
+        b"0300040100000003000000000000000a\n",
+    ] {
+        to.line_read(text, None);
+    }
+    for near in near_lines(line) {
+        to.line_read(&near, (near == line).then_some(example));
+    }
+}
+
 // Random cases.
+
+/// Verdict lines read and written, with begin and commit at each of their edges.
+fn compare_edges() -> Tally {
+    let mut tally = Tally::default();
+    for kind in EDGE_KINDS {
+        for begin in EDGE_PLACES {
+            for commit in EDGE_PLACES {
+                let fields = Fields {
+                    kind,
+                    frame: commit,
+                    thread: kind,
+                    begin,
+                    commit,
+                    locks: u64::from(begin) << 48,
+                };
+                let mut read = Case::new(Call::LineRead);
+                read.text = fields.line().into_bytes();
+                tally.count(&read, &compare(&read));
+                let mut write = Case::new(Call::LineWrite);
+                write.fields = fields;
+                tally.count(&write, &compare(&write));
+            }
+        }
+    }
+    tally
+}
 
 /// The search over exchanges and the projections agree on short sound recordings.
 fn compare_search(random: &mut Random) -> bool {
@@ -724,6 +970,11 @@ fn report(tally: &Tally, call: Call) -> bool {
         println!("  written: {written}, {serial_moved} of these not as recorded, {long} long");
         complete &= written > serial_moved && long > 0;
         complete &= shown("refusals", refusals, &tally.refusals);
+    } else if matches!(call, Call::Write | Call::LineRead | Call::LineWrite) {
+        let (written, back) = (tally.kinds[0], tally.came_back);
+        println!("  read or written: {written}, {back} of these come back");
+        complete &= written > 0 && back == written;
+        complete &= shown("refusals", refusals, &tally.refusals);
     } else {
         complete &= shown("kinds   ", kinds, &tally.kinds);
         complete &= shown("refusals", refusals, &tally.refusals);
@@ -752,11 +1003,14 @@ fn main() {
     lines_and_lists(&mut literals);
     equal_recordings(&mut literals);
     serial_orders(&mut literals);
+    written_texts(&mut literals);
+    verdict_lines(&mut literals);
     println!("literal cases: {}", literals.checked);
 
     println!("seed {seed}");
     let random = &mut Random::new(seed);
     let mut complete = true;
+    let mut edges = compare_edges();
     for call in CALLS {
         let cases = match call {
             Call::Check => CHECK_CASES,
@@ -769,7 +1023,9 @@ fn main() {
             tally.count(&case, &compare(&case));
         }
         complete &= report(&tally, call);
+        edges.add(&tally);
     }
+    complete &= print_edges([&edges]);
     complete &= compare_search(random);
     if !complete {
         exit(1);

@@ -8,13 +8,13 @@
 use std::process::exit;
 use std::time::{Duration, Instant};
 use trace_tests::adversarial::*;
-use trace_tests::case::{frames, text, Call, Case, Tally, CALLS};
+use trace_tests::case::{frames, text, Call, Case, CALLS};
 use trace_tests::random::{
     close_blocks, damage_guards, damage_text, interleaved, text_of_words, Random,
 };
 use trace_tests::random_case::{exact_list, random_case, random_recording, random_right};
-use trace_tests::table::{occurs, print_moved, print_table, Answer};
-use trace_tests::{LINE_BYTES, MOST_FRAMES, VARIABLES};
+use trace_tests::table::{occurs, print_edges, print_moved, print_table, Answer, Tallies};
+use trace_tests::{Fields, LINE_BYTES, MOST_FRAMES, VARIABLES};
 
 #[path = "../ffi.rs"]
 mod ffi;
@@ -38,7 +38,7 @@ struct Family {
     refusals: &'static [usize],
 }
 
-const FAMILIES: [Family; 10] = [
+const FAMILIES: [Family; 12] = [
     Family {
         name: "bytes",
         share: 8,
@@ -121,6 +121,24 @@ const FAMILIES: [Family; 10] = [
         refusals: &[2, 7, 8],
     },
     Family {
+        name: "texts",
+        share: 8,
+        fixed: each_room,
+        round: random_rooms,
+        least_rounds: 2_000,
+        kinds: &[],
+        refusals: &[2, 4, 5, 6, 7, 8, 9, 10, 19],
+    },
+    Family {
+        name: "lines",
+        share: 8,
+        fixed: each_field,
+        round: random_verdict_line,
+        least_rounds: 5_000,
+        kinds: &[],
+        refusals: &[17, 18],
+    },
+    Family {
         name: "general",
         share: 12,
         fixed: |_| {},
@@ -136,7 +154,7 @@ struct Soak {
     random: Random,
     family: &'static str,
     /// Counts of this family, by call.
-    tallies: [Tally; 8],
+    tallies: Tallies,
 }
 
 impl Soak {
@@ -146,8 +164,8 @@ impl Soak {
         exit(1)
     }
 
-    /// A case without input. Its buffers are long enough in most cases; `count` words are to be
-    /// written.
+    /// A case without input. Its buffers are long enough in most cases; `count` words, or their
+    /// lines, are to be written.
     fn case(&mut self, call: Call, count: usize) -> Case {
         let random = &mut self.random;
         let mut case = Case::new(call);
@@ -165,6 +183,9 @@ impl Soak {
             1 => count.saturating_sub(1),
             _ => count + random.pick(&[0, 0, 1, 2, 20]),
         };
+        if call == Call::Write {
+            (case.text_len, case.place) = random_room(random, 9 * count);
+        }
         case
     }
 
@@ -210,6 +231,28 @@ impl Soak {
         self.words(Call::SerialDeclared, list, words);
     }
 
+    /// Written from a place on into a text of a length.
+    fn write(&mut self, words: &[u32], (text_len, place): (usize, usize)) {
+        let mut case = self.case(Call::Write, words.len());
+        case.frames = words.to_vec();
+        (case.text_len, case.place) = (text_len, place);
+        self.take(case);
+    }
+
+    fn verdict_line(&mut self, line: &[u8]) {
+        self.text(Call::LineRead, line);
+    }
+
+    /// The fields written into lines about as long as need be, and their line read.
+    fn fields(&mut self, fields: Fields) {
+        for line_len in LINE_BYTES - 1..=LINE_BYTES + 1 {
+            let mut case = self.case(Call::LineWrite, 0);
+            (case.fields, case.line_len) = (fields, line_len);
+            self.take(case);
+        }
+        self.verdict_line(fields.line().as_bytes());
+    }
+
     /// The calls that take a recording.
     fn recording(&mut self, list: &[u8], words: &[u32]) {
         self.recording_text(&text_of_words(words));
@@ -218,6 +261,7 @@ impl Soak {
             Call::Inferred,
             Call::SerialDeclared,
             Call::SerialInferred,
+            Call::Write,
         ] {
             self.words(call, list, words);
         }
@@ -332,6 +376,13 @@ fn line_lengths(soak: &mut Soak) {
             (case.text, case.line_len) = (text(words), line_len);
             soak.take(case);
         }
+        for kind in EDGE_KINDS {
+            let mut case = soak.case(Call::LineWrite, 0);
+            (case.fields, case.line_len) = (random_fields(&mut soak.random), line_len);
+            case.fields.kind = kind;
+            soak.take(case);
+        }
+        soak.verdict_line(&vec![b'0'; line_len]);
     }
 }
 
@@ -410,6 +461,7 @@ fn random_lengths(soak: &mut Soak) {
         let random = &mut soak.random;
         case.text = match call {
             Call::Check | Call::Read => text_of_words(&made.words),
+            Call::LineRead => random_line(random),
             _ => exact_list(random, &made.guards),
         };
         if random.chance(200) {
@@ -417,6 +469,7 @@ fn random_lengths(soak: &mut Soak) {
         }
         (case.frames, case.right) = (made.words.clone(), made.words.clone());
         case.right.truncate(random.between(0, count));
+        case.fields = random_fields(random);
         case.line_len = random.below(41);
         case.words_len = random.pick(&near(count));
         case.sets_len = random.pick(&near(VARIABLES));
@@ -725,6 +778,106 @@ fn random_exchanges(soak: &mut Soak) {
     soak.take(case);
 }
 
+// Texts that are written.
+
+/// Sound recordings of several lengths, and one refused by each number but 2.
+const WRITTEN: [&str; 11] = [
+    "",
+    "03000005",
+    "05000000 06000000",
+    "05010000 01010000 03010000 02010000 01010000 03010001 02010000 06010000",
+    "05000000 07000000",
+    "03200000",
+    "04000400",
+    "0100003F 0100003F",
+    "0100003F 021F003F",
+    "051F0000 051F0000 051F0000 051F0000 051F0000 051F0000 051F0000 051F0000 \
+     051F0000 051F0000 051F0000 051F0000 051F0000 051F0000 051F0000 051F0000",
+    "061F0000",
+];
+
+/// Each boundary of the room, for short recordings and for the longest ones.
+fn each_room(soak: &mut Soak) {
+    for words in WRITTEN.map(frames) {
+        for room in rooms(9 * words.len()) {
+            soak.write(&words, room);
+        }
+    }
+    for count in MOST_FRAMES - 1..=MOST_FRAMES + 1 {
+        for room in rooms(9 * count) {
+            soak.write(&pairs(count), room);
+        }
+    }
+    for place in 0..=40 {
+        for text_len in 0..=60 {
+            soak.write(&pairs(2), (text_len, place));
+        }
+    }
+}
+
+/// A random recording into each of some rooms.
+fn random_rooms(soak: &mut Soak) {
+    let case = random_case(&mut soak.random, Call::Write, false);
+    for _ in 0..4 {
+        soak.words(Call::Write, b"", &case.frames);
+    }
+    let room = soak.random.pick(&rooms(9 * case.frames.len()));
+    soak.write(&case.frames, room);
+    soak.take(case);
+}
+
+// Verdict lines.
+
+/// Every kind with the other fields at their edges; every byte at every place of a line; lines of
+/// other lengths.
+fn each_field(soak: &mut Soak) {
+    for kind in 0..=255 {
+        for thread in [0, 31, 32, 255] {
+            for place in EDGE_PLACES {
+                for locks in EDGE_LOCKS {
+                    let begin = soak.random.pick(&EDGE_PLACES);
+                    let commit = soak.random.pick(&EDGE_PLACES);
+                    soak.fields(Fields {
+                        kind,
+                        frame: place,
+                        thread,
+                        begin,
+                        commit,
+                        locks,
+                    });
+                }
+            }
+        }
+    }
+    for digits in [
+        "03000401000000030000000000000001",
+        "00000000FFFFFFFF0000000000000000",
+        "FFFFFFFFFFFFFFFFFFFFFFFFFFFFFFFF",
+    ] {
+        let line = format!("{digits}\n").into_bytes();
+        for place in 0..line.len() {
+            for byte in 0..=255 {
+                let mut changed = line.clone();
+                changed[place] = byte;
+                soak.verdict_line(&changed);
+            }
+        }
+        for near in near_lines(&line) {
+            soak.verdict_line(&near);
+        }
+        for len in 0..=100 {
+            soak.verdict_line(&line.repeat(4)[..len]);
+        }
+    }
+}
+
+fn random_verdict_line(soak: &mut Soak) {
+    let line = random_line(&mut soak.random);
+    soak.verdict_line(&line);
+    let fields = random_fields(&mut soak.random);
+    soak.fields(fields);
+}
+
 // General.
 
 fn general(soak: &mut Soak) {
@@ -776,7 +929,7 @@ fn main() {
     println!("soak: seed {seed}, {seconds} seconds");
     let start = Instant::now();
     let mut seeds = Random::new(seed);
-    let mut totals: [Tally; 8] = Default::default();
+    let mut totals = Tallies::default();
     let all_shares: u32 = FAMILIES.iter().map(|family| family.share).sum();
     let mut shares = 0;
     for family in &FAMILIES {
@@ -796,7 +949,7 @@ fn main() {
             total.add(tally);
         }
     }
-    let complete = print_table(&totals) & print_moved(&totals);
+    let complete = print_table(&totals) & print_moved(&totals) & print_edges(&totals);
     if !complete {
         println!("FAILED: soak, something that can occur did not");
         exit(1);

@@ -1,11 +1,11 @@
-//! A benchmark, not a test: `trace_check`, `trace_equal` and the serial orders of the archive
-//! against the plain Rust checker.
+//! A benchmark, not a test: `trace_check`, `trace_equal`, the serial orders, `trace_write` and
+//! `trace_line_read` of the archives against the plain Rust checker.
 //! Arguments: an optional number of rounds.
 
 use std::hint::black_box;
 use std::time::Instant;
-use trace_tests::plain;
 use trace_tests::random::{close_blocks, recording, text_of_words, Plan, Random};
+use trace_tests::{plain, Fields, FieldsOut};
 
 #[path = "../ffi.rs"]
 mod ffi;
@@ -20,6 +20,9 @@ const LENGTHS: [usize; 3] = [64, 512, FRAMES];
 /// About so many frames are taken in one round of these.
 const ROUND_FRAMES: usize = 64 * FRAMES;
 const DIFFERENT: usize = 64;
+/// Verdict lines that are read in turn, and how often in one round.
+const LINES: usize = 1024;
+const LINE_REPEATS: usize = 64;
 
 type Check = fn(&[u8], &mut [u8]) -> u8;
 
@@ -271,6 +274,113 @@ fn order_rows(rounds: usize) {
     }
 }
 
+// Texts and verdict lines.
+
+type Write = fn(&[u32], &mut [u8], usize) -> u64;
+
+/// Nanoseconds per call over one round.
+fn round_of_writes(write: Write, recordings: &[Vec<u32>], text: &mut [u8]) -> f64 {
+    let start = Instant::now();
+    for words in recordings {
+        black_box(write(black_box(words), black_box(text), black_box(0)));
+    }
+    start.elapsed().as_nanos() as f64 / recordings.len() as f64
+}
+
+/// The fields of a line; none if it is refused.
+type ReadLine = fn(&[u8]) -> Option<Fields>;
+
+fn library_fields(line: &[u8]) -> Option<Fields> {
+    let mut fields = Fields::default();
+    let reply = ffi::line_read(
+        line,
+        FieldsOut {
+            kind: &mut fields.kind,
+            frame: &mut fields.frame,
+            thread: &mut fields.thread,
+            begin: &mut fields.begin,
+            commit: &mut fields.commit,
+            locks: &mut fields.locks,
+        },
+    );
+    (reply == 0).then_some(fields)
+}
+
+/// Nanoseconds per call over one round.
+fn round_of_lines(read: ReadLine, lines: &[[u8; 33]]) -> f64 {
+    let start = Instant::now();
+    for _ in 0..LINE_REPEATS {
+        for line in lines {
+            black_box(read(black_box(line)));
+        }
+    }
+    start.elapsed().as_nanos() as f64 / (LINE_REPEATS * lines.len()) as f64
+}
+
+/// A line as a check leaves it: reducible, a violation or a refusal.
+fn kept_line(random: &mut Random) -> [u8; 33] {
+    let kind = random.pick(&[0x00, 0x00, 0x01, 0x02, 0x03, 0x04, 0x81, 0x87, 0x88]);
+    let frame = random.below(FRAMES) as u16;
+    let mut fields = Fields {
+        kind,
+        frame,
+        thread: 0,
+        begin: 0xFFFF,
+        commit: 0xFFFF,
+        locks: 0,
+    };
+    if (0x01..=0x04).contains(&kind) {
+        fields.thread = random.below(32) as u8;
+        fields.begin = random.below(FRAMES) as u16;
+        fields.commit = random.below(FRAMES) as u16;
+        fields.locks = random.draw();
+    }
+    let line = fields.line().into_bytes();
+    line.try_into().expect("33 bytes")
+}
+
+fn text_rows(rounds: usize) {
+    println!();
+    println!("{DIFFERENT} random reducible recordings and {LINES} verdict lines in turn; medians as above.");
+    println!(
+        "{:40} {:>10} {:>10} {:>13}",
+        "", "library", "Rust", "library/Rust"
+    );
+    let row = |name: &str, (library, rust): (f64, f64)| {
+        let ratio = library / rust;
+        println!("{name:40} {library:>10.0} {rust:>10.0} {ratio:>13.2}");
+    };
+    let random = &mut Random::new(SEED);
+    let recordings: Vec<Vec<u32>> = (0..DIFFERENT).map(|_| reducible(random, FRAMES)).collect();
+    let (mut text, mut plain_text) = (vec![0; 9 * FRAMES], vec![0; 9 * FRAMES]);
+    for words in &recordings {
+        assert_eq!(ffi::write(words, &mut text, 0), 9 * FRAMES as u64);
+        assert_eq!(plain::write(words, &mut plain_text, 0), 9 * FRAMES as u64);
+        assert!(text == plain_text && text == text_of_words(words));
+    }
+    row(
+        "writing 4,096 frames",
+        medians(
+            rounds,
+            || round_of_writes(ffi::write, &recordings, &mut text),
+            || round_of_writes(plain::write, &recordings, &mut plain_text),
+        ),
+    );
+    let lines: Vec<[u8; 33]> = (0..LINES).map(|_| kept_line(random)).collect();
+    for line in &lines {
+        let fields = library_fields(line);
+        assert!(fields.is_some() && fields == plain::fields_of_line(line));
+    }
+    row(
+        "reading a verdict line",
+        medians(
+            rounds,
+            || round_of_lines(library_fields, &lines),
+            || round_of_lines(plain::fields_of_line, &lines),
+        ),
+    );
+}
+
 fn main() {
     let rounds = match std::env::args().nth(1) {
         Some(argument) => argument.parse().expect("the number of rounds is a number"),
@@ -278,4 +388,5 @@ fn main() {
     };
     check_rows(rounds);
     order_rows(rounds);
+    text_rows(rounds);
 }

@@ -10,24 +10,27 @@ use std::os::unix::fs::PermissionsExt;
 use std::path::PathBuf;
 use std::process::{Command, ExitCode, Stdio};
 use std::time::{Duration, SystemTime};
-use trace_tests::adversarial::{guard_lines, pairs};
+use trace_tests::adversarial::{
+    guard_lines, near_lines, pairs, random_fields, random_line, EDGE_KINDS, EDGE_LOCKS, EDGE_PLACES,
+};
 use trace_tests::case::{text, Call};
 use trace_tests::random::{damage_text, interleaved, text_of_words, Random};
 use trace_tests::random_case::{exact_list, random_case, random_list, random_recording};
-use trace_tests::words::{answer, GUARD_LIST, LEFT, RECORDING, RIGHT};
-use trace_tests::{MOST_FRAMES, VARIABLES};
+use trace_tests::words::{answer, GUARD_LIST, LEFT, RECORDING, RIGHT, TEXT};
+use trace_tests::{Fields, MOST_FRAMES, VARIABLES};
 
 #[path = "../document.rs"]
 mod document;
-use document::{fits, templates, FILES};
+use document::{fits, templates, uses, FILES};
 
 const DEFAULT_SEED: u64 = 1;
 const RANDOM_RECORDINGS: usize = 300;
 const RANDOM_PAIRS: usize = 400;
 const RANDOM_LONG: usize = 60;
+const RANDOM_LINES: usize = 600;
 /// The length of the longest recording's text.
 const MOST_BYTES: usize = 9 * MOST_FRAMES;
-const COMMANDS: [&str; 4] = ["verdict", "serial", "explain", "equal"];
+const COMMANDS: [&str; 5] = ["verdict", "serial", "explain", "equal", "line"];
 /// The commands on one recording.
 const JUDGING: [&str; 3] = ["verdict", "serial", "explain"];
 
@@ -94,13 +97,17 @@ fn entries() -> Result<Vec<Entry>, String> {
 
 // Counts.
 
+/// Of a number that no refusal has.
+const NOT_GIVEN: &str = ", which this check does not give; ";
+
 /// What a run is counted as.
 fn label(printed: &str) -> String {
     let words: Vec<&str> = printed.split_whitespace().take(3).collect();
     match words[..] {
+        ["refused:", ..] if printed.contains(NOT_GIVEN) => "refusal above 19".into(),
         ["refused:", _, number] => {
             let file = FILES.iter().find(|file| printed.contains(*file));
-            format!("refusal {number} {}", file.unwrap_or(&""))
+            refusal_label(number.trim_end_matches(','), file.unwrap_or(&""))
         }
         ["violation:", _, kind] => format!("kind {}", kind.trim_end_matches(',')),
         [first @ ("reducible:" | "error:"), ..] => first.trim_end_matches(':').into(),
@@ -110,10 +117,18 @@ fn label(printed: &str) -> String {
     }
 }
 
+/// Some refusals name no file.
+fn refusal_label(number: &str, file: &str) -> String {
+    match file {
+        "" => format!("refusal {number}"),
+        _ => format!("refusal {number}, {file}"),
+    }
+}
+
 /// What must be seen of each command.
 fn required(command: &str) -> Vec<String> {
     let refusals = |file: &str, numbers: &[usize]| -> Vec<String> {
-        let label = |number| format!("refusal {number}, {file}");
+        let label = |number: &usize| refusal_label(&number.to_string(), file);
         numbers.iter().map(label).collect()
     };
     let sound: &[usize] = &[1, 2, 4, 5, 6, 7, 8, 9, 10];
@@ -139,6 +154,23 @@ fn required(command: &str) -> Vec<String> {
             &["reducible", "kind 1", "kind 2", "kind 3", "kind 4"],
             of_files,
         ),
+        "line" => (
+            &[
+                "reducible",
+                "kind 1",
+                "kind 2",
+                "kind 3",
+                "kind 4",
+                "refusal above 19",
+            ],
+            [
+                refusals(TEXT, &[1, 19]),
+                refusals(GUARD_LIST, &[11, 12]),
+                refusals(RECORDING, &[2, 4, 5, 6, 7, 8, 9, 10, 13, 14]),
+                refusals("", &[3, 15, 16, 17, 18]),
+            ]
+            .concat(),
+        ),
         _ => (
             &["equal", "not equal"],
             [refusals(LEFT, sound), refusals(RIGHT, sound)].concat(),
@@ -149,14 +181,6 @@ fn required(command: &str) -> Vec<String> {
         .chain(&["error"])
         .map(|answer| answer.to_string());
     answers.chain(refused).collect()
-}
-
-/// The program itself lends buffers that are long enough.
-fn is_printed(template: &str) -> bool {
-    let start = |number: &usize| format!("refused: number {number},");
-    ![3, 15, 16, 17]
-        .iter()
-        .any(|number| template.starts_with(&start(number)))
 }
 
 // Runs.
@@ -449,6 +473,263 @@ fn literals(tool: &mut Tool) -> Done {
         write("left", &text(left))?;
         write("right", &text(right))?;
         tool.expect_text(&["equal", "left", "right"], printed)?;
+    }
+    Ok(())
+}
+
+/// The lines of recordings A, E, G and D, of others, and of each refusal; the texts of
+/// docs/TOOL.md.
+const LITERAL_LINES: [(&str, &str); 32] = [
+    (
+        "00000300FFFFFFFF0000000000000000",
+        "reducible: no frame goes wrong; frames: 3.\n",
+    ),
+    (
+        "00FFFFFF00000001FFFFFFFFFFFFFFFF",
+        "reducible: no frame goes wrong; frames: 65535.\n",
+    ),
+    (
+        "03000401000000030000000000000001",
+        "violation: kind 3, acquire after commit, by thread 1.\n  \
+         The block begins at line 1 [0].\n  \
+         It commits at line 4 [3].\n  \
+         It goes wrong at line 5 [4].\n  \
+         A block takes no lock after its commit, here lock 0: between these lines another thread \
+         may change what the block has read or written.\n",
+    ),
+    (
+        "03000401000000030000000000000000",
+        "violation: kind 3, acquire after commit, by thread 1.\n  \
+         The block begins at line 1 [0].\n  \
+         It commits at line 4 [3].\n  \
+         It goes wrong at line 5 [4].\n  \
+         A block takes no lock after its commit, here lock none: between these lines another \
+         thread may change what the block has read or written.\n",
+    ),
+    (
+        "02000200000000010000000000000000",
+        "violation: kind 2, unprotected access after commit, by thread 0.\n  \
+         The block begins at line 1 [0].\n  \
+         It commits at line 2 [1].\n  \
+         It goes wrong at line 3 [2].\n  \
+         The variable has no guard: another thread may change it, or what the block accessed \
+         before, between these lines.\n",
+    ),
+    (
+        "01000000FFFFFFFF0000000000000004",
+        "violation: kind 1, guard not held, by thread 0.\n  \
+         The thread is in no block.\n  \
+         It goes wrong at line 1 [0].\n  \
+         The guard of the variable is lock 2, and thread 0 does not hold it: another thread may \
+         access the variable at the same time.\n",
+    ),
+    (
+        "010001FF0000FFFF8000000000000001",
+        "violation: kind 1, guard not held, by thread 255.\n  \
+         The block begins at line 1 [0] and has not committed.\n  \
+         It goes wrong at line 2 [1].\n  \
+         The guard of the variable is lock 0, 63, and thread 255 does not hold it: another thread \
+         may access the variable at the same time.\n",
+    ),
+    (
+        "04000000FFFFFFFFFFFFFFFFFFFFFFFF",
+        "violation: kind 4, candidate set emptied, by thread 0.\n  \
+         The thread is in no block.\n  \
+         It goes wrong at line 1 [0].\n  \
+         Locks left that may guard the variable: all 64. Thread 0 holds none of them, so no one \
+         lock guards every access of the variable.\n",
+    ),
+    (
+        "04FFFF1FFFFEFFFE0000000000000000",
+        "violation: kind 4, candidate set emptied, by thread 31.\n  \
+         The block begins at line 65535 [65534].\n  \
+         It commits at line 65535 [65534].\n  \
+         It goes wrong at line 65536 [65535].\n  \
+         Locks left that may guard the variable: none. Thread 31 holds none of them, so no one \
+         lock guards every access of the variable.\n",
+    ),
+    (
+        "81006400FFFFFFFF0000000000000000",
+        "refused: number 1, line 101 [100] of the text is not eight digits 0-9 A-F and one LF; \
+         write it so, without blanks, lower case or CR, and end the last line.\n",
+    ),
+    (
+        "82100000FFFFFFFF0000000000000000",
+        "refused: number 2, the recording has more than 4096 lines; cut it down to 4096.\n",
+    ),
+    (
+        "83000200FFFFFFFF0000000000000000",
+        "refused: number 3, the word buffer has fewer than 2 words; lend one for each line.\n",
+    ),
+    (
+        "84000100FFFFFFFF0000000000000000",
+        "refused: number 4, line 2 [1] of the recording has an operation other than 01 to 06; \
+         mend its digits 1 and 2.\n",
+    ),
+    (
+        "85000000FFFFFFFF0000000000000000",
+        "refused: number 5, line 1 [0] of the recording has a thread above 1F; mend its digits 3 \
+         and 4.\n",
+    ),
+    (
+        "86000000FFFFFFFF0000000000000000",
+        "refused: number 6, line 1 [0] of the recording has an object out of range; locks go up \
+         to 003F, variables up to 03FF, and a begin or an end has 0000.\n",
+    ),
+    (
+        "87000100FFFFFFFF0000000000000000",
+        "refused: number 7, line 2 [1] of the recording takes a lock that is held already; \
+         release it before this line.\n",
+    ),
+    (
+        "88000100FFFFFFFF0000000000000000",
+        "refused: number 8, line 2 [1] of the recording lets go a lock that its thread does not \
+         hold; acquire it first or drop the line.\n",
+    ),
+    (
+        "89000F00FFFFFFFF0000000000000000",
+        "refused: number 9, line 16 [15] of the recording is a begin inside 15 open blocks of its \
+         thread; nest at most 15.\n",
+    ),
+    (
+        "8A000000FFFFFFFF0000000000000000",
+        "refused: number 10, line 1 [0] of the recording is an end where its thread has no open \
+         block; add its begin or drop the line.\n",
+    ),
+    (
+        "8B000100FFFFFFFF0000000000000000",
+        "refused: number 11, line 2 [1] of the guard list names a variable above 03FF or a lock \
+         above 003F; mend the number.\n",
+    ),
+    (
+        "8C000200FFFFFFFF0000000000000000",
+        "refused: number 12, line 3 [2] of the guard list names a variable that an earlier line \
+         names; keep one of the two.\n",
+    ),
+    (
+        "8D000400FFFFFFFF0000000000000000",
+        "refused: number 13, the recording is not reducible, so there is no serial order; line 5 \
+         [4] goes wrong, and explain says why.\n",
+    ),
+    (
+        "8E000000FFFFFFFF0000000000000000",
+        "refused: number 14, the block that begins at line 1 [0] of the recording is open at the \
+         end; add its end.\n",
+    ),
+    (
+        "8F100000FFFFFFFF0000000000000000",
+        "refused: number 15, the output has fewer than 4096 words; lend one for each frame.\n",
+    ),
+    (
+        "90040000FFFFFFFF0000000000000000",
+        "refused: number 16, the table of candidate sets has fewer than 1024 entries; lend 1024.\n",
+    ),
+    (
+        "91002100FFFFFFFF0000000000000000",
+        "refused: number 17, the line buffer has fewer than 33 bytes; lend 33.\n",
+    ),
+    ("92000000FFFFFFFF0000000000000000", NO_LINE),
+    (
+        "93900000FFFFFFFF0000000000000000",
+        "refused: number 19, the text has fewer than 36864 bytes from the given place on; lend \
+         them.\n",
+    ),
+    (
+        "94000000FFFFFFFF0000000000000000",
+        "refused: number 20, which this check does not give; its place is 0.\n",
+    ),
+    (
+        "FFFFFFFFFFFFFFFFFFFFFFFFFFFFFFFF",
+        "refused: number 127, which this check does not give; its place is 65535.\n",
+    ),
+    ("05000000FFFFFFFF0000000000000000", NO_LINE),
+    ("80000000FFFFFFFF0000000000000000", NO_LINE),
+];
+
+const NO_LINE: &str = "refused: number 18, this is no verdict line: that has 32 digits 0-9 A-F, \
+                       the first two 00 to 04 or 81 to FF, and one LF; hand it on as it was \
+                       written.\n";
+
+/// Words that are no verdict line. One of them is the name of a file.
+const NO_LINES: [&str; 16] = [
+    "",
+    " ",
+    "0",
+    "recording",
+    "--guards",
+    "line",
+    "0000000000000000000000000000000",
+    "000000000000000000000000000000000",
+    "00000000FFFFFFFF0000000000000000\n",
+    "00000000FFFFFFFF0000000000000000\r",
+    "00000000FFFFFFFF000000000000000\n",
+    " 0000000FFFFFFFF0000000000000000",
+    "00000000ffffffff0000000000000000",
+    "00000000FFFFFFFF000000000000000g",
+    "8a000000FFFFFFFF0000000000000000",
+    "0x000000FFFFFFFF0000000000000000",
+];
+
+fn kept_literals(tool: &mut Tool) -> Done {
+    write("recording", &text(A))?;
+    for (line, printed) in LITERAL_LINES {
+        tool.expect_text(&["line", line], printed)?;
+    }
+    for word in NO_LINES {
+        tool.expect_text(&["line", word], NO_LINE)?;
+    }
+    for long in [64, 4095, 5000, 40_000] {
+        tool.expect_text(&["line", &"0".repeat(long)], NO_LINE)?;
+    }
+    tool.expect_text(&[&b"line"[..], &[0xFF; 32]], NO_LINE)
+}
+
+/// The digits of a line as a word, unless a word cannot hold them.
+fn kept(tool: &mut Tool, line: &[u8]) -> Done {
+    let word = line.strip_suffix(b"\n").unwrap_or(line);
+    if word.contains(&0) {
+        return Ok(());
+    }
+    tool.expect(&[b"line", word])
+}
+
+/// Every kind, and the other fields at their edges.
+fn kept_lines(tool: &mut Tool, random: &mut Random) -> Done {
+    kept_literals(tool)?;
+    for kind in 0..=255 {
+        for _ in 0..2 {
+            let mut fields = random_fields(random);
+            fields.kind = kind;
+            kept(tool, fields.line().as_bytes())?;
+        }
+    }
+    for kind in EDGE_KINDS {
+        for begin in [0, 0xFFFE, 0xFFFF] {
+            for commit in [1, 0xFFFE, 0xFFFF] {
+                let fields = Fields {
+                    kind,
+                    frame: random.pick(&EDGE_PLACES),
+                    thread: random.pick(&[0, 1, 31, 32, 255]),
+                    begin,
+                    commit,
+                    locks: random.pick(&EDGE_LOCKS),
+                };
+                kept(tool, fields.line().as_bytes())?;
+            }
+        }
+    }
+    for kind in 0x01..=0x04 {
+        for lock in 0..64 {
+            let mut fields = random_fields(random);
+            (fields.kind, fields.locks) = (kind, 1 << lock);
+            kept(tool, fields.line().as_bytes())?;
+        }
+    }
+    for line in near_lines(b"03000401000000030000000000000001\n") {
+        kept(tool, &line)?;
+    }
+    for _ in 0..RANDOM_LINES {
+        kept(tool, &random_line(random))?;
     }
     Ok(())
 }
@@ -824,6 +1105,9 @@ fn no_such_command(tool: &mut Tool) -> Done {
         "verdicts",
         "verdic",
         "equal ",
+        "Line",
+        "lines",
+        "lin",
         "help",
         "--help",
         "--guards",
@@ -875,6 +1159,18 @@ fn wrong_use(tool: &mut Tool) -> Done {
     ] {
         tool.expect_text(words, printed)?;
     }
+    let (printed, line) = ("error: use: tracetool line LINE\n", LITERAL_LINES[2].0);
+    for words in [
+        &["line"][..],
+        &["line", line, line],
+        &["line", line, ""],
+        &["line", "", ""],
+        &["line", "recording", "--guards", "list"],
+        &["line", line, "--guards", "list"],
+        &["line", line, line, line, line],
+    ] {
+        tool.expect_text(words, printed)?;
+    }
     Ok(())
 }
 
@@ -897,14 +1193,17 @@ fn bad_use(tool: &mut Tool) -> Done {
     empty_names(tool)
 }
 
-/// The document gives the first word of the help alone.
+/// The help begins with the uses of the document, but for the help itself. What follows them is
+/// left open.
 fn help(tool: &mut Tool) -> Done {
     let printed = tool.run::<&str>(&[])?;
     let printed = String::from_utf8_lossy(&printed);
-    let named = |command: &&str| printed.contains(command);
-    let first = printed.split_whitespace().next();
-    if first != Some("usage:") || !COMMANDS.iter().all(named) || !printed.ends_with('\n') {
-        return Err(format!("the help is \"{printed}\""));
+    let uses: Vec<&str> = uses();
+    let (_, commands) = uses.split_last().expect("uses");
+    let expected = format!("usage: {}\n", commands.join("\n       "));
+    let named = |command: &&str| expected.contains(command);
+    if !COMMANDS.iter().all(named) || !printed.starts_with(&expected) || !printed.ends_with('\n') {
+        return Err(format!("the help is \"{printed}\", not \"{expected}\""));
     }
     Ok(())
 }
@@ -934,7 +1233,7 @@ fn report(tool: &Tool) -> Done {
     let runs: usize = others.map(|(_, count)| count).sum();
     println!("no such command: {runs} runs");
     for (line, count) in &tool.lines {
-        if *count == 0 && is_printed(line) {
+        if *count == 0 {
             absent.push(line.to_string());
         }
     }
@@ -958,6 +1257,7 @@ fn test(program: &OsStr, seed: u64) -> Result<usize, String> {
     worked_recordings(&mut tool)?;
     refusals(&mut tool)?;
     bad_use(&mut tool)?;
+    kept_lines(&mut tool, random)?;
     lengths(&mut tool)?;
     long(&mut tool)?;
     names(&mut tool)?;

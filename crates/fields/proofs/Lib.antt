@@ -1,0 +1,2 @@
+-- Laws of the values of a line's digits.
+pub mod Values

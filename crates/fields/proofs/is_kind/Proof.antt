@@ -1,0 +1,13 @@
+-- The tests of `isKind`.
+use borrow.Author.Tests.{lt-ltb, le-ltb}
+use Rattle.fields.proofs.is_kind.Statement.{statement}
+use Rattle.fields.proofs.is_kind.Tie as tie
+
+returns : tie.Need-returns
+returns c = simp (lt-ltb _ _ (c .if1 .taken))
+
+returns-2 : tie.Need-returns-2
+returns-2 c = simp (le-ltb _ _ (c .if1 .left))
+
+pub is-kind-spec : {M : Type 1} → statement M
+is-kind-spec = tie.close (tie.spec returns returns-2)

@@ -1,0 +1,2 @@
+-- Laws of the quick check.
+pub mod Turn

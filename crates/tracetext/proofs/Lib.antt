@@ -1,0 +1,2 @@
+-- Laws of the functions for C programs.
+pub mod Laws

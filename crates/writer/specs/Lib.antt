@@ -1,0 +1,2 @@
+-- What a reader must believe of recordings written as text.
+pub mod Writer
