@@ -16,7 +16,7 @@ extern "C" {
  *   0x00      reducible;
  *   0x03      acquire after commit;
  *   0x04      candidate set emptied;
- *   0x80 + n  refusal n of the recording: 1, 2 or 4 to 10;
+ *   0x80 + n  refusal n of the recording: 1, 2, 4 to 10 or 20;
  *   0x91      refusal 17: line_len is below 33. Tested first of all.
  *
  * Writes exactly the first 33 bytes of line, 32 digits and LF: kind (2), frame (4), thread (2),

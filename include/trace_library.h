@@ -44,7 +44,7 @@ uint64_t trace_guards(const uint8_t *list, size_t list_len);
  * in trace_check.h. Kinds: 0x00 reducible; 0x01 guard not held; 0x02 unprotected access after
  * commit; 0x03 acquire after commit; 0x80 + n refusal n.
  * Refusals in order: 17 line_len is below 33 (returns 0x91, writes nothing); 1, 11, 12 of the
- * list; 2 words_len is above 4,096; 4 to 10 of the first frame that fails.
+ * list; 2 words_len is above 4,096; 4 to 10 or 20 of the first frame that fails.
  * The line is the reply: it is written for a verdict, for a refusal of the recording, and for one
  * of the list as well (kind 0x81, 0x8B, 0x8C, frame = line of the list). Only 17 leaves it.
  */
@@ -56,7 +56,8 @@ uint8_t trace_declared(const uint8_t *list, size_t list_len, const uint32_t *wor
  * line. Kinds: 0x00 reducible; 0x03 acquire after commit; 0x04 candidate set emptied;
  * 0x80 + n refusal n.
  * Refusals in order: 17 line_len is below 33 (returns 0x91, writes nothing); 2 words_len is
- * above 4,096; 4 to 10 of the first frame that fails; 16 sets_len is below 1,024 (place 1024).
+ * above 4,096; 4 to 10 or 20 of the first frame that fails; 16 sets_len is below 1,024 (place
+ * 1024).
  * The line is the reply: it is written for a verdict, for a refusal of the recording, and for 16
  * as well. Only 17 leaves it.
  * With a verdict, sets[v] for v from 0 to 1023 becomes variable v's candidate set, bit n for
@@ -71,8 +72,8 @@ uint8_t trace_inferred(const uint32_t *words, size_t words_len, uint64_t *sets, 
  * Without a refusal the reply is 1 if they do and 0 if not; recordings of different length are
  * not equal.
  * Refusals in order: left_len is above 4,096 (2, place 4096) and the first frame of left that
- * fails (4 to 10, place: frame); then the same of right, with 256 added to the number. Both are
- * checked whole, whatever their lengths.
+ * fails (4 to 10 or 20, place: frame); then the same of right, with 256 added to the number. Both
+ * are checked whole, whatever their lengths.
  */
 uint64_t trace_equal(const uint32_t *left, size_t left_len, const uint32_t *right,
                      size_t right_len);
@@ -82,7 +83,7 @@ uint64_t trace_equal(const uint32_t *left, size_t left_len, const uint32_t *righ
  * frames in recorded order. A variable that the list does not name is unprotected.
  * Count: words_len; that many words of out are written, later words keep their contents.
  * Refusals in order: 1, 11, 12 of the list (place: line); 2 words_len is above 4,096 (place
- * 4096); 4 to 10 of the first frame that fails (place: frame); 13 not reducible (place: the
+ * 4096); 4 to 10 or 20 of the first frame that fails (place: frame); 13 not reducible (place: the
  * violating frame); 14 a block still open at the end (place: the smallest of an open outermost
  * begin); 15 out_len is below words_len (place: words_len). A refusal writes nothing.
  */
@@ -101,9 +102,9 @@ uint64_t trace_serial_inferred(const uint32_t *words, size_t words_len, uint32_t
  * reducible, nor its blocks closed.
  * Count: the bytes, 9 for each frame; that many are written from place on, all others keep their
  * contents. No frames are 0 bytes, also where place is text_len.
- * Refusals in order: 2 words_len is above 4,096 (place 4096); 4 to 10 of the first frame that
- * fails (place: frame); 19 place is above text_len, or fewer than 9 * words_len bytes stand from
- * there (place: 9 * words_len). A refusal writes nothing.
+ * Refusals in order: 2 words_len is above 4,096 (place 4096); 4 to 10 or 20 of the first frame
+ * that fails (place: frame); 19 place is above text_len, or fewer than 9 * words_len bytes stand
+ * from there (place: 9 * words_len). A refusal writes nothing.
  */
 uint64_t trace_write(const uint32_t *words, size_t words_len, uint8_t *text, size_t text_len,
                      size_t place);

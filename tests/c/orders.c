@@ -51,14 +51,16 @@ static uint8_t *expand(const char *from, const char *end, long times, size_t *le
 {
     static uint8_t room[LONGEST];
     const char *open = NULL;
+    long left = times;
     size_t n = 0;
     for (const char *c = from; c < end; c++) {
         if (n == LONGEST)
             fail("too long");
-        if (*c == '[')
+        if (*c == '[') {
             open = c;
-        else if (*c == ']') {
-            if (--times > 0)
+            left = times;
+        } else if (*c == ']') {
+            if (--left > 0)
                 c = open;
         } else
             room[n++] = *c == ',' ? '\n' : *c == ';' ? '\r' : *c;

@@ -351,6 +351,95 @@ static void test_lines(void)
     }
 }
 
+/* A lock that its holder takes again: the release that frees it commits. */
+static const uint32_t words_again[] = {0x05000000, 0x01000000, 0x03000005, 0x01000000, 0x02000000,
+                                       0x05010000, 0x06010000, 0x02000000, 0x06000000};
+static const uint32_t serial_again[] = {0x05010000, 0x06010000, 0x05000000, 0x01000000, 0x03000005,
+                                        0x01000000, 0x02000000, 0x02000000, 0x06000000};
+/* Taken again after the commit, and then a free lock. */
+static const uint32_t words_after[] = {0x05000000, 0x01000000, 0x01000001, 0x02000000,
+                                       0x01000001, 0x02000001, 0x02000001, 0x01000001};
+/* Held before the block, taken and let go inside it, and then a free lock; thread 1's block. */
+static const uint32_t words_before[] = {0x01000000, 0x05000000, 0x01000000, 0x02000000, 0x01000001,
+                                        0x05010000, 0x06010000, 0x02000001, 0x06000000};
+static const uint32_t serial_before[] = {0x01000000, 0x05010000, 0x06010000, 0x05000000, 0x01000000,
+                                         0x02000000, 0x01000001, 0x02000001, 0x06000000};
+/* Variable 5 under lock 1 held twice, under it held once, and under no lock. */
+static const uint32_t words_held[] = {0x01000001, 0x01000001, 0x03000005, 0x02000001,
+                                      0x03000005, 0x02000001, 0x03000005};
+static const uint32_t words_other[] = {0x01000003, 0x01000003, 0x01010003};
+static const uint32_t words_other_early[] = {0x01000003, 0x01000003, 0x02000003, 0x01010003};
+static const uint32_t words_other_late[] = {0x01000003, 0x01000003, 0x02000003, 0x02000003,
+                                            0x01010003};
+
+static void test_again(void)
+{
+    CHECK(infers_to(words_again, 9, 1024, 33, "00000900FFFFFFFF0000000000000000", 5, 1));
+    CHECK(declares_to("00050000\n", words_again, 9, 33, "00000900FFFFFFFF0000000000000000"));
+    CHECK(orders_to(NULL, words_again, 9, 9, 9, serial_again));
+    CHECK(orders_to("00050000\n", words_again, 9, 9, 9, serial_again));
+    CHECK(equals_to(words_again, 9, serial_again, 9, 1));
+    CHECK(infers_to(words_after, 7, 1024, 33, "00000700FFFFFFFF0000000000000000", 0, UINT64_MAX));
+    CHECK(infers_to(words_after, 8, 1024, 33, "03000700000000030000000000000002", 0, UINT64_MAX));
+    CHECK(orders_to(NULL, words_after, 8, 8, REFUSAL(13, 7), NULL));
+    CHECK(declares_to("", words_before, 9, 33, "00000900FFFFFFFF0000000000000000"));
+    CHECK(orders_to("", words_before, 9, 9, 9, serial_before));
+    CHECK(orders_to(NULL, words_before, 9, 9, 9, serial_before));
+    CHECK(infers_to(words_held, 5, 1024, 33, "00000500FFFFFFFF0000000000000000", 5, 2));
+    CHECK(infers_to(words_held, 7, 1024, 33, "04000600FFFFFFFF0000000000000002", 5, 2));
+    CHECK(declares_to("00050001\n", words_held, 7, 33, "01000600FFFFFFFF0000000000000002"));
+    CHECK(declares_to("", words_other, 2, 33, "00000200FFFFFFFF0000000000000000"));
+    CHECK(declares_to("", words_other, 3, 33, "87000200FFFFFFFF0000000000000000"));
+    CHECK(declares_to("", words_other_early, 4, 33, "87000300FFFFFFFF0000000000000000"));
+    CHECK(declares_to("", words_other_late, 5, 33, "00000500FFFFFFFF0000000000000000"));
+}
+
+/* 15 takings of a lock, the 16th, 15 releases and one more. */
+static void test_most_holds(void)
+{
+    enum { MOST = 15 };
+    const uint32_t bad[] = {0x09000003, 0x01200003, 0x01000043};
+    const char *bad_digits[] = {"84000F00FFFFFFFF0000000000000000",
+                                "85000F00FFFFFFFF0000000000000000",
+                                "86000F00FFFFFFFF0000000000000000"};
+    uint32_t words[2 * MOST + 1];
+    char text[9 * (MOST + 1) + 1];
+    for (size_t place = 0; place <= MOST; place++) {
+        words[place] = 0x01000003;
+        sprintf(text + 9 * place, "%08X\n", (unsigned)words[place]);
+    }
+    CHECK(checks_to(text, 33, "94000F00FFFFFFFF0000000000000000"));
+    CHECK(checks_to(text + 9, 33, "00000F00FFFFFFFF0000000000000000"));
+    CHECK(declares_to("", words, MOST, 33, "00000F00FFFFFFFF0000000000000000"));
+    CHECK(declares_to("", words, MOST + 1, 33, "94000F00FFFFFFFF0000000000000000"));
+    CHECK(declares_to("04000000\n", words, MOST + 1, 33, "8B000000FFFFFFFF0000000000000000"));
+    CHECK(infers_to(words, MOST, 1024, 33, "00000F00FFFFFFFF0000000000000000", 0, UINT64_MAX));
+    CHECK(infers_to(words, MOST + 1, 1024, 33, "94000F00FFFFFFFF0000000000000000", 0, 0));
+    CHECK(infers_to(words, MOST + 1, 1023, 33, "94000F00FFFFFFFF0000000000000000", 0, 0));
+    CHECK(equals_to(words, MOST, words, MOST, 1));
+    CHECK(equals_to(words, MOST + 1, words, MOST, REFUSAL(20, 15)));
+    CHECK(equals_to(words, MOST, words, MOST + 1, REFUSAL(256 + 20, 15)));
+    CHECK(orders_to(NULL, words, MOST, MOST, MOST, words));
+    CHECK(orders_to(NULL, words, MOST + 1, 0, REFUSAL(20, 15), NULL));
+    CHECK(orders_to("", words, MOST + 1, MOST + 1, REFUSAL(20, 15), NULL));
+    CHECK(writes_to(words, MOST, 9 * MOST, 0, 9 * MOST, text));
+    CHECK(writes_to(words, MOST + 1, 9 * (MOST + 1), 0, REFUSAL(20, 15), NULL));
+    CHECK(writes_to(words, MOST + 1, 0, SIZE_MAX, REFUSAL(20, 15), NULL));
+    words[MOST] = 0x01010003;
+    CHECK(declares_to("", words, MOST + 1, 33, "87000F00FFFFFFFF0000000000000000"));
+    for (size_t number = 0; number < COUNT(bad); number++) {
+        words[MOST] = bad[number];
+        CHECK(declares_to("", words, MOST + 1, 33, bad_digits[number]));
+    }
+    for (size_t place = MOST; place <= 2 * MOST; place++)
+        words[place] = 0x02000003;
+    CHECK(declares_to("", words, 2 * MOST, 33, "00001E00FFFFFFFF0000000000000000"));
+    CHECK(declares_to("", words, 2 * MOST + 1, 33, "88001E00FFFFFFFF0000000000000000"));
+    CHECK(orders_to(NULL, words, 2 * MOST, 2 * MOST, 2 * MOST, words));
+    words[2 * MOST] = 0x01010003;
+    CHECK(declares_to("", words, 2 * MOST + 1, 33, "00001F00FFFFFFFF0000000000000000"));
+}
+
 /* 4,096 frames, one more, and a byte more. */
 static void test_longest(void)
 {
@@ -408,6 +497,7 @@ int main(void)
     CHECK(checks_to("03000005\n", 33, "04000000FFFFFFFFFFFFFFFFFFFFFFFF"));
     CHECK(checks_to("01000003\n01010003\n", 40, "87000100FFFFFFFF0000000000000000"));
     CHECK(checks_to("01000003\n02010003\n", 33, "88000100FFFFFFFF0000000000000000"));
+    CHECK(checks_to("01000003\n01000003\n", 33, "00000200FFFFFFFF0000000000000000"));
     CHECK(checks_to("01000040\n", 33, "86000000FFFFFFFF0000000000000000"));
     CHECK(checks_to("01000003", 33, "81000000FFFFFFFF0000000000000000"));
     CHECK(checks_to("0", 33, "81000000FFFFFFFF0000000000000000"));
@@ -491,6 +581,8 @@ int main(void)
     test_write();
     test_lines();
 
+    test_again();
+    test_most_holds();
     test_longest();
     if (failures > 0)
         return 1;

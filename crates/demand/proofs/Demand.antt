@@ -27,6 +27,7 @@ use Rattle.soundness.specs.Soundness.{State, stepped, stepFrame, checkFrom, che
 use Rattle.soundness.specs.declared.CheckReply.{CheckReply}
 use Rattle.soundness.specs.declared.CheckReply.the-variants as check
 use Rattle.soundness.specs.declared.Outcome.the-variants as outcome
+use Rattle.soundness.specs.declared.Level.{Level}
 use Rattle.reply.specs.Reply.{reducible, violated}
 use Rattle.reply.specs.declared.Mark.{Mark}
 use Rattle.reply.specs.declared.Mark.the-variants.{At, Absent}
@@ -34,7 +35,7 @@ use Rattle.reply.specs.declared.Reply.{Reply}
 use Rattle.reply.specs.declared.Reply.the-variants as reply
 use Rattle.reply.specs.declared.Verdict.{Verdict}
 use Rattle.reply.specs.declared.Verdict.the-variants as verdict
-use Rattle.instrumented.specs.Rules.{Judging}
+use Rattle.instrumented.specs.Rules.{Judging, judged}
 use Rattle.pass.proofs.Judgement.{judgement-sound}
 use Rattle.rules.specs.Choice.{Reducible}
 use Rattle.exchange.proofs.Sound.{exchanges-sound}
@@ -76,13 +77,13 @@ unfolding judgeFrom
 pass-refuses table i s j [] x c e = never (cc)
 pass-refuses table i s j (w ∷ ws) x c e =
     let a = sound-first i s w ws c in
-    go (a .frame) (a .next) (a .is) (a .passes) (judgeFrame table i (a .frame) s j .verdict) refl
+    go (a .frame) (a .level) (a .next) (a .is) (a .passes) (judgeFrame table i (a .frame) s j .verdict) (judgeFrame table i (a .frame) s j .judging) refl
     (λ k. pass-refuses table (i + 1) (a .next) k ws x (a .rest))
   where
-    go : (f : Frame) (n : State) → decodeWord w ≡ decoded.Frame f → stepFrame f s ≡ stepped outcome.Next n
-        → (v : Verdict) → judgeFrame table i f s j .verdict ≡ v → ((k : Judging) → judgeFrom table (i + 1) n k ws .reply ≡ reply.Refused x → ⊥) → ⊥
-    go f n d g verdict.Reducible q ih = ih (judgeFrame table i f s j .judging) (rw (d, g, q) at e)
-    go f n d g (verdict.Violated v) q ih = let y : violated v ≡ reply.Refused x = rw (d, g, q) at e in never (cc)
+    go : (f : Frame) (y : Level) (n : State) → decodeWord w ≡ decoded.Frame f → stepFrame f s ≡ stepped (outcome.Next y) n
+        → (v : Verdict) (k : Judging) → judgeFrame table i f s j ≡ judged v k → ((k : Judging) → judgeFrom table (i + 1) n k ws .reply ≡ reply.Refused x → ⊥) → ⊥
+    go f y n d g verdict.Reducible k q ih = ih k (rw (d, q, g) at e)
+    go f y n d g (verdict.Violated v) k q ih = let z : violated v ≡ reply.Refused x = rw (d, q, g) at e in never (cc)
 
 -- a recording that its judgement refuses is refused by the check
 judgement-refused : (table ws : List ℕ) (x : Refused) → judgement table fullSets ws .reply ≡ reply.Refused x → checkReply ws ≡ check.Refused x

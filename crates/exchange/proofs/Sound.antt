@@ -2,108 +2,145 @@
 -- order; one exchange; exchanges.
 use Prim.Native.Nat.{ℕ, _+_, _-_, _≤_}
 use mathlib.Core.Path.{_≡_, refl, sym, ap, _∙_, subst}
-use mathlib.Core.Bool.{Bool, true, false, not, _&&_}
+use mathlib.Core.Bool.{Bool, true, false, cond, not, _&&_, _||_, false≢true}
 use mathlib.Core.List.{List, _∷_}
 use lib.Dec.{eqb, leb}
 use lib.ListN.{getD, set}
-use lib.Seq.{getD-set-other}
-use borrow.Author.Tests.{eqb-false, not-true}
+use native.Mathlib.Omega.{arith}
+use lib.Seq.{getD-set-other, set-getD, set-comm}
+use borrow.Author.Tests.{eq-eqb, ne-eqb, le-leb, lt-leb, eqb-false, not-true}
 use Rattle.laws.proofs.Lists.{set-twice}
-use Rattle.frame.specs.Limits.{mostFrames, deepest}
+use Rattle.frame.specs.Limits.{mostFrames, deepest, mostHeld}
 use Rattle.laws.proofs.Logic.{never}
 use Rattle.frame.specs.Frame.{decodeWord}
 use Rattle.frame.specs.declared.Action.{Action}
 use Rattle.frame.specs.declared.Action.the-variants.{Acquire, Release, Read, Write, Begin, End}
 use Rattle.frame.specs.declared.Frame.{Frame}
+use Rattle.frame.specs.declared.Lock.{Lock}
 use Rattle.frame.specs.declared.Decoded.the-variants as decoded
 use Rattle.frame.specs.declared.Refusal.the-variants as refusal
-use Rattle.soundness.proofs.Laws.{check-short, sound-fits, sound-first, passed, spared}
-use Rattle.soundness.specs.Soundness.{State, stateOf, Checked, stepped, stepAction, stepFrame, checkFrom, checkReply, start}
+use Rattle.soundness.proofs.Laws.{check-short, sound-fits, sound-first, spared, Acquired, took, took-again, acquired, Released, freed, let-go, released}
+use Rattle.soundness.specs.Soundness.{State, stateOf, ownerOf, countOf, Checked, stepped, stepAction, stepFrame, checkFrom, checkReply, start}
 use Rattle.soundness.specs.declared.CheckReply.the-variants as check
 use Rattle.soundness.specs.declared.Outcome.the-variants as outcome
+use Rattle.soundness.specs.declared.Level.{Level}
+use Rattle.soundness.specs.declared.Level.the-variants.{Outer, Inner}
 use Rattle.exchange.specs.Independent.{clash, independent}
 use Rattle.exchange.specs.Exchange.{Exchange, here, later, Exchanges, done, step, independentWords}
 use Rattle.exchange.proofs.Exchange.{exchanges-length}
 
--- What a frame does: it tests and sets the owner of one lock, or the depth of one thread, or nothing.
+-- What a frame does: it tests and sets the owner and the count of one lock, or the depth of one thread, or nothing.
 data Cell : Type 0 where
-  owner : ℕ → (ℕ → Bool) → (ℕ → ℕ) → Cell
+  lock : ℕ → (ℕ → ℕ → Bool) → (ℕ → ℕ → ℕ) → (ℕ → ℕ → ℕ) → Cell
   depth : ℕ → (ℕ → Bool) → (ℕ → ℕ) → Cell
   none : Cell
 
 abbrev cellOf : ℕ → Action → Cell
-cellOf t (Acquire l) = owner (l .0) (λ x. eqb x 0) (λ x. t + 1)
-cellOf t (Release l) = owner (l .0) (λ x. eqb x (t + 1)) (λ x. 0)
+cellOf t (Acquire l) =
+    lock (l .0) (λ x n. eqb x 0 || (eqb x (t + 1) && not (leb mostHeld n))) (λ x n. cond (eqb x 0) (t + 1) x) (λ x n. cond (eqb x 0) 1 (n + 1))
+cellOf t (Release l) = lock (l .0) (λ x n. eqb x (t + 1)) (λ x n. cond (leb n 1) 0 x) (λ x n. cond (leb n 1) 0 (n - 1))
 cellOf t (Read v) = none
 cellOf t (Write v) = none
 cellOf t Begin = depth t (λ x. not (leb deepest x)) (λ x. x + 1)
 cellOf t End = depth t (λ x. not (eqb x 0)) (λ x. x - 1)
 
 abbrev passes : Cell → State → Bool
-passes (owner m ok to) s = ok (getD (s .owners) m 0)
+passes (lock m ok o c) s = ok (getD (s .owners) m 0) (getD (s .counts) m 0)
 passes (depth t ok to) s = ok (getD (s .depths) t 0)
 passes none s = true
 
 abbrev change : Cell → State → State
-change (owner m ok to) s = stateOf (set (s .owners) m (to (getD (s .owners) m 0))) (s .depths)
-change (depth t ok to) s = stateOf (s .owners) (set (s .depths) t (to (getD (s .depths) t 0)))
+change (lock m ok o c) s =
+    stateOf (set (s .owners) m (o (getD (s .owners) m 0) (getD (s .counts) m 0))) (set (s .counts) m (c (getD (s .owners) m 0) (getD (s .counts) m 0))) (s .depths)
+change (depth t ok to) s = stateOf (s .owners) (s .counts) (set (s .depths) t (to (getD (s .depths) t 0)))
 change none s = s
 
 -- a step on is a test passed and the change
-does : (t : ℕ) (a : Action) (s n : State) → stepAction t a s ≡ stepped outcome.Next n → (passes (cellOf t a) s ≡ true) × (n ≡ change (cellOf t a) s)
+abbrev Does : ℕ → Action → State → State → Type 0
+Does t a s n = (passes (cellOf t a) s ≡ true) × (n ≡ change (cellOf t a) s)
+
+does-acquire : (t : ℕ) (l : Lock) (s : State) {x : Level} {n : State} → Acquired t l s x n → Does t (Acquire l) s n
+does-acquire t l s (took e) = (rw e, rw e)
+does-acquire t l s (took-again e h) =
+    let z : eqb (ownerOf l s) 0 ≡ false = ne-eqb (ownerOf l s) 0 (λ q. omega arith) in
+    (rw (z, eq-eqb (ownerOf l s) (t + 1) e, lt-leb mostHeld (countOf l s) h), rw (z, set-getD (s .owners) (l .0) 0))
+
+does-release : (t : ℕ) (l : Lock) (s : State) {x : Level} {n : State} → Released t l s x n → Does t (Release l) s n
+does-release t l s (freed e h) = (eq-eqb (ownerOf l s) (t + 1) e, rw (le-leb (countOf l s) 1 h))
+does-release t l s (let-go e h) = (eq-eqb (ownerOf l s) (t + 1) e, rw (lt-leb (countOf l s) 1 h, set-getD (s .owners) (l .0) 0))
+
+does : {x : Level} (t : ℕ) (a : Action) (s n : State) → stepAction t a s ≡ stepped (outcome.Next x) n → Does t a s n
 unfolding stepAction
-does t (Acquire l) s n e = passed _ refusal.LockTaken s _ n e
-does t (Release l) s n e = passed _ refusal.LockNotHeld s _ n e
+does t (Acquire l) s n e = does-acquire t l s (acquired t l s e)
+does t (Release l) s n e = does-release t l s (released t l s e)
 does t (Read v) s n e = (refl, sym (ap (λ x. x .state) e))
 does t (Write v) s n e = (refl, sym (ap (λ x. x .state) e))
 does t Begin s n e = let q = spared (leb deepest (getD (s .depths) t 0)) refusal.TooDeep s _ n e in (rw (q .0), q .1)
 does t End s n e = let q = spared (eqb (getD (s .depths) t 0) 0) refusal.NoOpenBlock s _ n e in (rw (q .0), q .1)
 
-steps : (t : ℕ) (a : Action) (s : State) → passes (cellOf t a) s ≡ true → stepAction t a s ≡ stepped outcome.Next (change (cellOf t a) s)
+abbrev Steps : ℕ → Action → State → Type 0
+Steps t a s = (x : Level) × (stepAction t a s ≡ stepped (outcome.Next x) (change (cellOf t a) s))
+
+steps-acquire : (t : ℕ) (l : Lock) (s : State) (a b d : Bool) → eqb (ownerOf l s) 0 ≡ a → eqb (ownerOf l s) (t + 1) ≡ b → leb mostHeld (countOf l s) ≡ d
+    → a || (b && not d) ≡ true → Steps t (Acquire l) s
 unfolding stepAction
-steps t (Acquire l) s e = rw e
-steps t (Release l) s e = rw e
-steps t (Read v) s e = refl
-steps t (Write v) s e = refl
-steps t Begin s e = rw (not-true (leb deepest (getD (s .depths) t 0)) e)
-steps t End s e = rw (not-true (eqb (getD (s .depths) t 0) 0) e)
+steps-acquire t l s true b d p q r e = (Outer, rw p)
+steps-acquire t l s false true true p q r e = absurd (false≢true e)
+steps-acquire t l s false true false p q r e = (Inner, rw (p, q, r, set-getD (s .owners) (l .0) 0))
+steps-acquire t l s false false d p q r e = absurd (false≢true e)
+
+steps-release : (t : ℕ) (l : Lock) (s : State) (b : Bool) → leb (countOf l s) 1 ≡ b → eqb (ownerOf l s) (t + 1) ≡ true → Steps t (Release l) s
+unfolding stepAction
+steps-release t l s true p e = (Outer, rw (e, p))
+steps-release t l s false p e = (Inner, rw (e, p, set-getD (s .owners) (l .0) 0))
+
+steps : (t : ℕ) (a : Action) (s : State) → passes (cellOf t a) s ≡ true → Steps t a s
+unfolding stepAction
+steps t (Acquire l) s e = steps-acquire t l s (eqb (ownerOf l s) 0) (eqb (ownerOf l s) (t + 1)) (leb mostHeld (countOf l s)) refl refl refl e
+steps t (Release l) s e = steps-release t l s (leb (countOf l s) 1) refl e
+steps t (Read v) s e = (Outer, refl)
+steps t (Write v) s e = (Outer, refl)
+steps t Begin s e = (Outer, rw (not-true (leb deepest (getD (s .depths) t 0)) e))
+steps t End s e = (Outer, rw (not-true (eqb (getD (s .depths) t 0) 0) e))
 
 -- not the same cell
 abbrev Apart : Cell → Cell → Type 0
-Apart (owner m ok to) (owner k ok′ to′) = k ≡ m → ⊥
-Apart (owner m ok to) (depth u ok′ to′) = Unit {0}
-Apart (owner m ok to) none = Unit {0}
-Apart (depth t ok to) (owner k ok′ to′) = Unit {0}
+Apart (lock m ok o c) (lock k ok′ o′ c′) = k ≡ m → ⊥
+Apart (lock m ok o c) (depth u ok′ to′) = Unit {0}
+Apart (lock m ok o c) none = Unit {0}
+Apart (depth t ok to) (lock k ok′ o′ c′) = Unit {0}
 Apart (depth t ok to) (depth u ok′ to′) = u ≡ t → ⊥
 Apart (depth t ok to) none = Unit {0}
 Apart none q = Unit {0}
 
 test-kept : (p q : Cell) (s : State) → Apart p q → passes q (change p s) ≡ passes q s
-test-kept (owner m ok to) (owner k ok′ to′) s a = ap ok′ (getD-set-other (s .owners) m k _ 0 a)
-test-kept (owner m ok to) (depth u ok′ to′) s a = refl
-test-kept (owner m ok to) none s a = refl
-test-kept (depth t ok to) (owner k ok′ to′) s a = refl
+test-kept (lock m ok o c) (lock k ok′ o′ c′) s a = rw (getD-set-other (s .owners) m k _ 0 a, getD-set-other (s .counts) m k _ 0 a)
+test-kept (lock m ok o c) (depth u ok′ to′) s a = refl
+test-kept (lock m ok o c) none s a = refl
+test-kept (depth t ok to) (lock k ok′ o′ c′) s a = refl
 test-kept (depth t ok to) (depth u ok′ to′) s a = ap ok′ (getD-set-other (s .depths) t u _ 0 a)
 test-kept (depth t ok to) none s a = refl
 test-kept none q s a = refl
 
 changes : (p q : Cell) (s : State) → Apart p q → change q (change p s) ≡ change p (change q s)
-changes (owner m ok to) (owner k ok′ to′) s a = ap (λ o. stateOf o (s .depths)) (set-twice (s .owners) m k to to′ a)
-changes (owner m ok to) (depth u ok′ to′) s a = refl
-changes (owner m ok to) none s a = refl
-changes (depth t ok to) (owner k ok′ to′) s a = refl
-changes (depth t ok to) (depth u ok′ to′) s a = ap (λ d. stateOf (s .owners) d) (set-twice (s .depths) t u to to′ a)
+changes (lock m ok o c) (lock k ok′ o′ c′) s a =
+    let b : m ≡ k → ⊥ = λ e. a (sym e) in
+    rw (getD-set-other (s .owners) m k _ 0 a, getD-set-other (s .counts) m k _ 0 a, getD-set-other (s .owners) k m _ 0 b, getD-set-other (s .counts) k m _ 0 b, set-comm (s .owners) m k _ _ b, set-comm (s .counts) m k _ _ b)
+changes (lock m ok o c) (depth u ok′ to′) s a = refl
+changes (lock m ok o c) none s a = refl
+changes (depth t ok to) (lock k ok′ o′ c′) s a = refl
+changes (depth t ok to) (depth u ok′ to′) s a = ap (λ d. stateOf (s .owners) (s .counts) d) (set-twice (s .depths) t u to to′ a)
 changes (depth t ok to) none s a = refl
 changes none q s a = refl
 
 back : (p q : Cell) → Apart p q → Apart q p
-back (owner m ok to) (owner k ok′ to′) a = λ e. a (sym e)
-back (owner m ok to) (depth u ok′ to′) a = tt
-back (owner m ok to) none a = tt
-back (depth t ok to) (owner k ok′ to′) a = tt
+back (lock m ok o c) (lock k ok′ o′ c′) a = λ e. a (sym e)
+back (lock m ok o c) (depth u ok′ to′) a = tt
+back (lock m ok o c) none a = tt
+back (depth t ok to) (lock k ok′ o′ c′) a = tt
 back (depth t ok to) (depth u ok′ to′) a = λ e. a (sym e)
 back (depth t ok to) none a = tt
-back none (owner k ok′ to′) a = tt
+back none (lock k ok′ o′ c′) a = tt
 back none (depth u ok′ to′) a = tt
 back none none a = tt
 
@@ -144,15 +181,19 @@ cells t u End End n e = λ z. n (sym z)
 -- Two independent frames, in the other order.
 record Turned (f g : Frame) (s k : State) : Type 0 where
   between : State
-  first : stepFrame g s ≡ stepped outcome.Next between
-  second : stepFrame f between ≡ stepped outcome.Next k
+  early : Level
+  late : Level
+  first : stepFrame g s ≡ stepped (outcome.Next early) between
+  second : stepFrame f between ≡ stepped (outcome.Next late) k
 
-turn : (f g : Frame) (s n k : State) → independent f g ≡ true → stepFrame f s ≡ stepped outcome.Next n → stepFrame g n ≡ stepped outcome.Next k
+turn : {x y : Level} (f g : Frame) (s n k : State) → independent f g ≡ true → stepFrame f s ≡ stepped (outcome.Next x) n → stepFrame g n ≡ stepped (outcome.Next y) k
     → Turned f g s k
 turn f g s n k i a b = record {
   between = change q s;
-  first = steps u (g .action) s q-first;
-  second = steps t (f .action) (change q s) p-second ∙ ap (stepped outcome.Next) (sym (changes p q s c) ∙ sym at-end);
+  early = steps u (g .action) s q-first .0;
+  late = steps t (f .action) (change q s) p-second .0;
+  first = steps u (g .action) s q-first .1;
+  second = steps t (f .action) (change q s) p-second .1 ∙ ap (stepped (outcome.Next _)) (sym (changes p q s c) ∙ sym at-end);
 }
   where
     t : ℕ
@@ -183,7 +224,7 @@ turn f g s n k i a b = record {
     p-second = test-kept q p s (back p q c) ∙ does t (f .action) s n a .0
 
 -- the pass goes on behind a frame that steps
-pub goes-on : (i : ℕ) (s n : State) (w : ℕ) (ws : List ℕ) (f : Frame) → decodeWord w ≡ decoded.Frame f → stepFrame f s ≡ stepped outcome.Next n
+pub goes-on : {x : Level} (i : ℕ) (s n : State) (w : ℕ) (ws : List ℕ) (f : Frame) → decodeWord w ≡ decoded.Frame f → stepFrame f s ≡ stepped (outcome.Next x) n
     → checkFrom i s (w ∷ ws) ≡ checkFrom (i + 1) n ws
 unfolding checkFrom
 goes-on i s n w ws f d g = rw (d, g)

@@ -22,6 +22,10 @@ mostFrames = 4096
 abbrev pub deepest : ℕ
 deepest = 15
 
+-- "acquire of a lock that this thread holds 15 times already"
+abbrev pub mostHeld : ℕ
+mostHeld = 15
+
 -- "all 64 locks": lock n is bit n of a set.
 abbrev pub allLocks : ℕ
 allLocks = 18446744073709551615

@@ -4,7 +4,8 @@ ghost use mathlib.Core.Path.{_≡_};
 ghost use Rattle.frame.specs.Frame.{decodeWord, encodeFrame, wordOf, refusalOf};
 ghost use Rattle.frame.specs.Refusal.{refusalNumber};
 
-// The limits of a recording: its threads, locks, variables and frames, and the blocks that a thread may have open.
+// The limits of a recording: its threads, locks, variables and frames, the blocks that a thread may have open, and how often it may hold a
+// lock.
 pub const THREADS: usize = 32;
 
 pub const LOCKS: usize = 64;
@@ -14,6 +15,8 @@ pub const VARIABLES: usize = 1024;
 pub const MOST: usize = 4096;
 
 pub const DEEPEST: u8 = 15;
+
+pub const MOST_HELD: u8 = 15;
 
 // The set of all locks: lock n is bit n.
 pub const ALL_LOCKS: u64 = 18446744073709551615;
@@ -70,6 +73,7 @@ pub enum Refusal {
     LineBuffer,
     VerdictLine,
     TextBuffer,
+    TooOften,
 }
 
 pub struct Refused {
@@ -199,5 +203,6 @@ pub fn refusal_number(r: Refusal) -> u8
         Refusal::LineBuffer => 17,
         Refusal::VerdictLine => 18,
         Refusal::TextBuffer => 19,
+        Refusal::TooOften => 20,
     }
 }

@@ -83,7 +83,7 @@ committed d c i = cond (eqb d 0) c (cond (eqb c 0) (i + 1) c)
 abbrev pub withCommit : Thread → ℕ → Judging → Judging
 withCommit t c j = judgingOf (j .begins) (set (j .commits) (t .0) c) (j .sets)
 
--- "An acquire after commit goes wrong (locks: the lock acquired)."
+-- "An acquire of a free lock after commit goes wrong (locks: the lock acquired)."
 abbrev pub acquireIn : Phase → ℕ → Thread → Lock → Judging → Judged
 acquireIn outside i t l j = judged Reducible j
 acquireIn (before b) i t l j = judged Reducible j
@@ -99,7 +99,7 @@ unprotectedIn (after b c) i t next j = judged (violation kind.UnprotectedAfterCo
 -- One operation of thread t at place i; d is the thread's depth and h the set of the locks that it holds, both before the frame.
 unfoldable pub judgeOperation : ℕ → Thread → ℕ → ℕ → Operation → Judging → Judged
 judgeOperation i t d h (Acquire l) j = acquireIn (phaseAt d t j) i t l j
--- "A release inside a block puts it after commit."
+-- "A release that frees its lock inside a block puts it after commit."
 judgeOperation i t d h (Release l) j = judged Reducible (withCommit t (committed d (getD (j .commits) (t .0) 0) i) j)
 -- "An access to a guarded variable goes wrong unless its thread holds the guard (locks: the guard alone), in a block or not, and otherwise
 -- changes nothing."

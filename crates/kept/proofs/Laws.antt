@@ -1,7 +1,6 @@
--- What a line tells: a number tells its refusal and its kind, a line's mark its place, and the fields of a reply tell the reply.
+-- What a line tells: a line's mark its place, and the fields of a reply the reply.
 use Prim.Native.Nat.{ℕ}
 use mathlib.Core.Path.{_≡_, refl}
-use Rattle.frame.specs.Refusal.{refusalNumber}
 use Rattle.frame.specs.declared.Refusal.{Refusal}
 use Rattle.frame.specs.declared.Refusal.the-variants as refusal
 use Rattle.frame.specs.declared.Refused.{Refused}
@@ -15,29 +14,8 @@ use Rattle.reply.specs.declared.Verdict.the-variants as verdict
 use Rattle.reply.specs.declared.Reply.{Reply}
 use Rattle.reply.specs.declared.Reply.the-variants as reply
 use Rattle.line.specs.Line.{lineMark, replyFields}
-use Rattle.kept.specs.Kept.{refusalBy, markOf, keptBy, keptReply}
+use Rattle.kept.specs.Kept.{markOf, keptBy, keptReply}
 use Rattle.kept.specs.declared.Kept.the-variants as kept
-
-pub refusal-by-number : (r : Refusal) → refusalBy (refusalNumber r) ≡ r
-refusal-by-number refusal.Line = refl
-refusal-by-number refusal.TooLong = refl
-refusal-by-number refusal.WordBuffer = refl
-refusal-by-number refusal.Operation = refl
-refusal-by-number refusal.Thread = refl
-refusal-by-number refusal.Object = refl
-refusal-by-number refusal.LockTaken = refl
-refusal-by-number refusal.LockNotHeld = refl
-refusal-by-number refusal.TooDeep = refl
-refusal-by-number refusal.NoOpenBlock = refl
-refusal-by-number refusal.GuardRange = refl
-refusal-by-number refusal.GuardRepeated = refl
-refusal-by-number refusal.Irreducible = refl
-refusal-by-number refusal.OpenBlock = refl
-refusal-by-number refusal.OutputBuffer = refl
-refusal-by-number refusal.SetTable = refl
-refusal-by-number refusal.LineBuffer = refl
-refusal-by-number refusal.VerdictLine = refl
-refusal-by-number refusal.TextBuffer = refl
 
 pub mark-told : (m : Mark) → markOf (lineMark m) ≡ m
 mark-told (mark.At i) = refl
@@ -64,6 +42,7 @@ refusal-told refusal.SetTable p n = refl
 refusal-told refusal.LineBuffer p n = refl
 refusal-told refusal.VerdictLine p n = refl
 refusal-told refusal.TextBuffer p n = refl
+refusal-told refusal.TooOften p n = refl
 
 violation-told : (k : Kind) (v : Violation) (n : ℕ) → v .kind ≡ k → keptReply (replyFields (violated v) n) ≡ kept.Reply (violated v)
 unfolding keptBy

@@ -1,2 +1,2 @@
--- Laws: refusals, kinds and replies told by their lines.
+-- Laws: marks and replies told by their lines.
 pub mod Laws

@@ -24,7 +24,8 @@ abbrev pub refusals : List Refusal
 refusals =
     refusal.Line ∷ refusal.TooLong ∷ refusal.WordBuffer ∷ refusal.Operation ∷ refusal.Thread ∷ refusal.Object ∷ refusal.LockTaken
     ∷ refusal.LockNotHeld ∷ refusal.TooDeep ∷ refusal.NoOpenBlock ∷ refusal.GuardRange ∷ refusal.GuardRepeated ∷ refusal.Irreducible
-    ∷ refusal.OpenBlock ∷ refusal.OutputBuffer ∷ refusal.SetTable ∷ refusal.LineBuffer ∷ refusal.VerdictLine ∷ refusal.TextBuffer ∷ []
+    ∷ refusal.OpenBlock ∷ refusal.OutputBuffer ∷ refusal.SetTable ∷ refusal.LineBuffer ∷ refusal.VerdictLine ∷ refusal.TextBuffer
+    ∷ refusal.TooOften ∷ []
 
 -- The highest kind of a line of this check.
 abbrev pub lastKind : ℕ

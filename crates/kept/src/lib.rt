@@ -20,12 +20,12 @@ pub enum Kept {
 }
 
 // The highest kind of a line of this check: 80 hexadecimal plus the number of refusals.
-const LAST_KIND: u8 = 128 + 19;
+const LAST_KIND: u8 = 128 + 20;
 
 // The refusal of a number.
 fn refusal_by(n: u8) -> Refusal
     requires { ⌜ 1 ≤ n ⌝ }
-    requires { ⌜ n ≤ 19 ⌝ }
+    requires { ⌜ n ≤ 20 ⌝ }
     ensures { λ r. ⌜ r ≡ refusalBy n ⌝ }
 {
     let all = [
@@ -48,6 +48,7 @@ fn refusal_by(n: u8) -> Refusal
         Refusal::LineBuffer,
         Refusal::VerdictLine,
         Refusal::TextBuffer,
+        Refusal::TooOften,
     ];
     let i = (n - 1) as usize;
     all[i]

@@ -4,13 +4,15 @@ use frame::Lock;
 use frame::VARIABLES;
 use frame::Variable;
 use guards::Guard;
+use soundness::Level;
 ghost use mathlib.Core.Path.{_≡_};
 ghost use Prim.Native.Nat.{_-_, _<_};
 ghost use Rattle.frame.specs.Limits.{variableCount};
 ghost use Rattle.frame.specs.Frame.{ObjectInRange};
-ghost use Rattle.operation.specs.Operation.{operationOf, accessOf};
+ghost use Rattle.operation.specs.Operation.{operationOf, accessOf, atLevel};
 
-// An action as the rules see it: an access is one under its guard, an unprotected one, or one whose guard is inferred.
+// An action as the rules see it: an access is one under its guard, an unprotected one, or one whose guard is inferred; an inner acquire or
+// release is as an access under its lock.
 pub enum Operation {
     Acquire(Lock),
     Release(Lock),
@@ -34,13 +36,23 @@ fn access_of(guards: &[u8; VARIABLES], v: Variable) -> Operation
     }
 }
 
-pub fn operation_of(guards: &[u8; VARIABLES], a: Action) -> Operation
+// An acquire or a release of a lock.
+fn at_level(level: Level, op: Operation, l: Lock) -> Operation
+    ensures { λ r. ⌜ r ≡ atLevel level op l ⌝ }
+{
+    match level {
+        Level::Outer => op,
+        Level::Inner => Operation::Protected(l),
+    }
+}
+
+pub fn operation_of(guards: &[u8; VARIABLES], level: Level, a: Action) -> Operation
     requires { ⌜ ObjectInRange a ⌝ }
-    ensures { λ r. ⌜ r ≡ operationOf (now (guards .entry)) a ⌝ }
+    ensures { λ r. ⌜ r ≡ operationOf (now (guards .entry)) level a ⌝ }
 {
     match a {
-        Action::Acquire(l) => Operation::Acquire(l),
-        Action::Release(l) => Operation::Release(l),
+        Action::Acquire(l) => at_level(level, Operation::Acquire(l), l),
+        Action::Release(l) => at_level(level, Operation::Release(l), l),
         Action::Read(v) => access_of(guards, v),
         Action::Write(v) => access_of(guards, v),
         Action::Begin => Operation::Begin,

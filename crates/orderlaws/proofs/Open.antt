@@ -20,6 +20,7 @@ use Rattle.frame.specs.declared.Frame.{Frame}
 use Rattle.frame.specs.declared.Decoded.the-variants as decoded
 use Rattle.soundness.specs.Soundness.{State, Checked, stepped, stepFrame, checkFrom, start}
 use Rattle.soundness.specs.declared.Outcome.the-variants as outcome
+use Rattle.soundness.specs.declared.Level.{Level}
 use Rattle.instrumented.specs.Rules.{Judging}
 use Rattle.reply.specs.declared.Mark.{Mark}
 use Rattle.reply.specs.declared.Mark.the-variants.{At, Absent}
@@ -112,8 +113,8 @@ reached-depth all i s h t =
     ap (λ (l : List ℕ). getD (checkFrom 0 start l .state .depths) t 0) (sym (append-nil (take i all)))
     ∙ ap (λ (x : Checked). getD (x .state .depths) t 0) (h [])
 
-reached-next : (all : List ℕ) (i w : ℕ) (ws : List ℕ) (s n : State) (f : Frame) → drop i all ≡ w ∷ ws → decodeWord w ≡ decoded.Frame f
-    → stepFrame f s ≡ stepped outcome.Next n → Reached all i s → Reached all (suc i) n
+reached-next : {x : Level} (all : List ℕ) (i w : ℕ) (ws : List ℕ) (s n : State) (f : Frame) → drop i all ≡ w ∷ ws → decodeWord w ≡ decoded.Frame f
+    → stepFrame f s ≡ stepped (outcome.Next x) n → Reached all i s → Reached all (suc i) n
 reached-next all i w ws s n f e d g h r =
     let q = rest-of all i w ws e in
     ap (λ (l : List ℕ). checkFrom 0 start (l ++ r)) (take-suc all i 0 (q .0))
@@ -172,7 +173,7 @@ module _ (guards : List ℕ) where
   begun-end all (on {i = i} {s = s} {w = w} {ws = ws} {f = f} {n = n} d g a o rest) e l h b =
       let q = rest-of all i w ws e in
       let next = reached-next all i w ws s n f e d g h in
-      rw (d, g, a, add-one i) (begun-end all rest (q .2) (q .0) next (begun-next all f o h next b))
+      rw (d, a, g, add-one i) (begun-end all rest (q .2) (q .0) next (begun-next all f o h next b))
 
 -- a block that is open at the end leaves its thread's depth above 0
 open-to-end : (ws : List ℕ) (t c : ℕ) → Open ws t c → getD (checkFrom 0 start ws .state .depths) t 0 ≡ 0 → ⊥

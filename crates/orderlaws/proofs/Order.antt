@@ -25,6 +25,7 @@ use Rattle.reply.specs.declared.Mark.{Mark}
 use Rattle.reply.specs.declared.Mark.the-variants.{At, Absent}
 use Rattle.reply.specs.declared.Verdict.the-variants as verdict
 use Rattle.soundness.specs.Soundness.{State, checkFrom, start, nest}
+use Rattle.soundness.specs.declared.Level.{Level}
 use Rattle.operation.specs.Operation.{operationOf}
 use Rattle.operation.specs.declared.Operation.{Operation}
 use Rattle.operation.specs.declared.Operation.the-variants.{Acquire, Release, Protected, Unprotected, Inferred, Begin, End}
@@ -67,11 +68,12 @@ declared-chosen locks Begin = tt
 declared-chosen locks End = tt
 
 module _ (guards locks : List ℕ) (c : Choice locks) where
-  choice-alike : (a : Action) → Alike (operationOf guards a) (operationOf (choose guards locks) a)
-  choice-alike a = subst (λ (o : Operation). Alike (operationOf guards a) o) (sym (operation-chosen guards locks c a)) (alike-chosen locks (operationOf guards a))
+  choice-alike : (x : Level) (a : Action) → Alike (operationOf guards x a) (operationOf (choose guards locks) x a)
+  choice-alike x a =
+      subst (λ (o : Operation). Alike (operationOf guards x a) o) (sym (operation-chosen guards locks c x a)) (alike-chosen locks (operationOf guards x a))
 
-  choice-declared : (a : Action) → Declared (operationOf (choose guards locks) a)
-  choice-declared a = subst Declared (sym (operation-chosen guards locks c a)) (declared-chosen locks (operationOf guards a))
+  choice-declared : (x : Level) (a : Action) → Declared (operationOf (choose guards locks) x a)
+  choice-declared x a = subst Declared (sym (operation-chosen guards locks c x a)) (declared-chosen locks (operationOf guards x a))
 
 -- The pass of a reducible recording.
 pub reducible-pass : (guards ws : List ℕ) → Reducible guards ws → Pass guards 0 start (startJudging fullSets) ws

@@ -26,6 +26,7 @@ use Rattle.reply.specs.declared.Verdict.the-variants as verdict
 use Rattle.soundness.specs.Soundness.{State, stepped, stepFrame, checkFrom, start, nest}
 use Rattle.soundness.specs.declared.Outcome.{Outcome}
 use Rattle.soundness.specs.declared.Outcome.the-variants as outcome
+use Rattle.soundness.specs.declared.Level.{Level}
 use Rattle.instrumented.specs.Rules.{outside, before, after, Judging, judged, phaseOf}
 use Rattle.operation.specs.Operation.{operationOf}
 use Rattle.rules.proofs.Choice.{goes, goes-on}
@@ -47,8 +48,8 @@ point s j = record { state = s; judging = j }
 -- A pass that goes on to the end, with what each frame does.
 pub data Pass (guards : List ℕ) : ℕ → State → Judging → List ℕ → Type 0 where
   end : {i : ℕ} {s : State} {j : Judging} → Pass guards i s j []
-  on : {i : ℕ} {s : State} {j : Judging} {w : ℕ} {ws : List ℕ} {f : Frame} {n : State} {k : Judging} → decodeWord w ≡ decoded.Frame f
-      → stepFrame f s ≡ stepped outcome.Next n → judgeFrame guards i f s j ≡ judged verdict.Reducible k
+  on : {i : ℕ} {s : State} {j : Judging} {w : ℕ} {ws : List ℕ} {f : Frame} {x : Level} {n : State} {k : Judging} → decodeWord w ≡ decoded.Frame f
+      → stepFrame f s ≡ stepped (outcome.Next x) n → judgeFrame guards i f s j ≡ judged verdict.Reducible k
       → OneFrame guards i f s j n k → Pass guards (suc i) n k ws → Pass guards i s j (w ∷ ws)
 
 pub pass-made : (guards : List ℕ) (i : ℕ) (s : State) (j : Judging) (ws : List ℕ) → judgeFrom guards i s j ws .reply ≡ reducible → Long s j
@@ -56,11 +57,11 @@ pub pass-made : (guards : List ℕ) (i : ℕ) (s : State) (j : Judging) (ws : Li
 pass-made guards i s j [] e z = end
 pass-made guards i s j (w ∷ ws) e z =
     let g = goes guards i s j w ws e in
-    let p : stepFrame (g .frame) s ≡ stepped outcome.Next (stepFrame (g .frame) s .state) =
+    let p : stepFrame (g .frame) s ≡ stepped (outcome.Next (g .level)) (stepFrame (g .frame) s .state) =
     ap (λ (x : Outcome). stepped x (stepFrame (g .frame) s .state)) (g .sound) in
     let q : judgeFrame guards i (g .frame) s j ≡ judged verdict.Reducible (judgeFrame guards i (g .frame) s j .judging) =
     ap (λ (x : Verdict). judged x (judgeFrame guards i (g .frame) s j .judging)) (g .right) in
-    let o = one-frame guards i (g .frame) s (stepFrame (g .frame) s .state) j (judgeFrame guards i (g .frame) s j .judging) z (decoded-in-range w (g .frame) (g .is)) p q in
+    let o = one-frame guards i (g .frame) s (stepFrame (g .frame) s .state) j (judgeFrame guards i (g .frame) s j .judging) (g .level) z (decoded-in-range w (g .frame) (g .is)) p q in
     let r : judgeFrom guards (i + 1) (stepFrame (g .frame) s .state) (judgeFrame guards i (g .frame) s j .judging) ws .reply ≡ reducible =
     sym (ap (λ (x : Ended). x .reply) (goes-on guards i s j w ws g)) ∙ e in
     on (g .is) p q o (pass-made guards (suc i) (stepFrame (g .frame) s .state) (judgeFrame guards i (g .frame) s j .judging) ws
@@ -69,11 +70,11 @@ pass-made guards i s j (w ∷ ws) e z =
 -- the start
 pub start-long : Long start (startJudging fullSets)
 unfolding start startJudging
-start-long = record { owners-long = refl; depths-long = refl; begins-long = refl; commits-long = refl }
+start-long = record { owners-long = refl; counts-long = refl; depths-long = refl; begins-long = refl; commits-long = refl }
 
 pub start-view : viewOf start (startJudging fullSets) ≡ begin
 unfolding start startJudging
-start-view = run-equal (λ m. getD-filled lockCount m 0) (λ t. getD-filled threadCount t 0) (λ t. rw (getD-filled threadCount t 0))
+start-view = run-equal (λ m. getD-filled lockCount m 0) (λ m. getD-filled lockCount m 0) (λ t. getD-filled threadCount t 0) (λ t. rw (getD-filled threadCount t 0))
 
 -- the phases
 settled-view : (s : State) (j : Judging) (t : ℕ)
@@ -129,11 +130,11 @@ units-from (suc m) c k xs e =
 
 module _ (guards : List ℕ) where
   -- The run of a reducible recording does not go wrong, where no guard is inferred.
-  pub pass-good : ((a : Action) → Declared (operationOf guards a)) → {i : ℕ} {s : State} {j : Judging} {ws : List ℕ} → Pass guards i s j ws
+  pub pass-good : ((x : Level) (a : Action) → Declared (operationOf guards x a)) → {i : ℕ} {s : State} {j : Judging} {ws : List ℕ} → Pass guards i s j ws
       → Good guards (viewOf s j) i (framesOf ws)
   pass-good h end = tt
   pass-good h (on {i = i} {ws = ws} {f = f} d g a o rest) =
-      rw d (o .passes, o .rightly (h (f .action)), subst (λ (x : Run). Good guards x (suc i) (framesOf ws)) (o .run) (pass-good h rest))
+      rw d (o .passes, o .rightly (h _ (f .action)), subst (λ (x : Run). Good guards x (suc i) (framesOf ws)) (o .run) (pass-good h rest))
 
   -- the commit of a thread's unit
   place : (t : Thread) {i : ℕ} {s : State} {j : Judging} {ws : List ℕ} → Pass guards i s j ws
@@ -141,7 +142,7 @@ module _ (guards : List ℕ) where
   unfolding commitFrom
   place t end = refl
   place t (on {i = i} {ws = ws} {f = f} {n = n} {k = k} d g a o rest) =
-      rw (d, g, a, add-one i)
+      rw (d, a, g, add-one i)
       (ap (λ (b : Bool). cond (eqb (threadOf f) (t .0) && b) i (commitFrom guards t (suc i) (point n k) ws)) (settled-view n k (t .0))
       ∙ (ap (λ (m : ℕ). cond (eqb (threadOf f) (t .0) && run.settled (viewOf n k) (t .0)) i m) (place t rest)
       ∙ ap (λ (x : Run). cond (eqb (threadOf f) (t .0) && run.settled x (t .0)) i (commitPlace guards (t .0) x (suc i) (framesOf ws))) (o .run)))
@@ -152,7 +153,7 @@ module _ (guards : List ℕ) where
   unfolding commitsFrom
   pass-keys end = refl
   pass-keys (on {i = i} {s = s} {j = j} {w = w} {ws = ws} {f = f} {n = n} {k = k} d g a o rest) =
-      rw (d, g, a, add-one i)
+      rw (d, a, g, add-one i)
       (ap (λ (x : ℕ). x ∷ commitsFrom guards (suc i) (point n k) ws) first
       ∙ (ap (λ (x : List ℕ). keyOf guards (viewOf s j) i f (framesOf ws) ∷ x) (pass-keys rest)
       ∙ ap (λ (x : Run). keyOf guards (viewOf s j) i f (framesOf ws) ∷ keys (keyed guards x (suc i) (framesOf ws))) (o .run)))
@@ -256,7 +257,7 @@ module _ (guards : List ℕ) where
   unfolding walkFrom
   pass-walk all q end e h = refl
   pass-walk all q (on {i = i} {s = s} {j = j} {w = w} {ws = ws} {f = f} {n = n} {k = k} d g a o rest) e h =
-      rw (d, g, a, add-one i)
+      rw (d, a, g, add-one i)
       (map-append frameOf (unitIn (unitStart (phaseOf m b c) (settled (phaseOf (getD (n .depths) t 0) (getD (k .begins) t 0) (getD (k .commits) t 0))) i) all (f .thread))
       (walkFrom guards all (suc i) (point n k) ws)
       ∙ (ap (λ (x : List Frame). x ++ framesOf (walkFrom guards all (suc i) (point n k) ws)) here
@@ -297,7 +298,7 @@ module _ (guards : List ℕ) where
   pub pass-end : {i : ℕ} {s : State} {j : Judging} {ws : List ℕ} → Pass guards i s j ws → judgeFrom guards i s j ws .state ≡ checkFrom i s ws .state
   unfolding judgeFrom checkFrom
   pass-end end = refl
-  pass-end (on {i = i} d g a o rest) = rw (d, g, a, add-one i) (pass-end rest)
+  pass-end (on {i = i} d g a o rest) = rw (d, a, g, add-one i) (pass-end rest)
 
   pub pass-end-long : {i : ℕ} {s : State} {j : Judging} {ws : List ℕ} → Pass guards i s j ws → Long s j → length (checkFrom i s ws .state .depths) ≡ threadCount
   unfolding checkFrom

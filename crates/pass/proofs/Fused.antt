@@ -22,9 +22,10 @@ use Rattle.soundness.specs.Soundness.{State, stepped, stepFrame, checkFrom, sta
 use Rattle.soundness.proofs.Laws.{check-short}
 use Rattle.soundness.specs.declared.Outcome.{Outcome}
 use Rattle.soundness.specs.declared.Outcome.the-variants as outcome
+use Rattle.soundness.specs.declared.Level.{Level}
 use Rattle.soundness.specs.declared.CheckReply.{CheckReply}
 use Rattle.soundness.specs.declared.CheckReply.the-variants as check
-use Rattle.instrumented.specs.Rules.{Judging}
+use Rattle.instrumented.specs.Rules.{Judging, judged}
 use Rattle.turn.specs.Turn.{judgeFrame, turned, turnedTo}
 use Rattle.turn.specs.declared.Turn.{Turn}
 use Rattle.turn.specs.declared.Turn.the-variants as turn
@@ -60,13 +61,13 @@ unfolding checkFrom judgeFrom fusedFrom
 fused-is guards i s j [] c = refl
 fused-is guards i s j (w ∷ ws) c = decode-case (λ n k. fused-is guards (i + 1) n k ws c) (decodeWord w) refl
   where
-    judge-case : ((n : State) (k : Judging) → Agree guards (i + 1) n k ws c) → (f : Frame) → decodeWord w ≡ decoded.Frame f → (n : State) → stepFrame f s ≡ stepped outcome.Next n
-        → (v : Verdict) → judgeFrame guards i f s j .verdict ≡ v → Agree guards i s j (w ∷ ws) c
-    judge-case ih f e n g verdict.Reducible a = rw (e, g, a) (ih n (judgeFrame guards i f s j .judging))
-    judge-case ih f e n g (verdict.Violated v) a = rw (e, g, a) (ap (λ (r : Reply). ended r s j) (after-reply (checkFrom (i + 1) n ws .reply) v c s j))
+    judge-case : ((n : State) (k : Judging) → Agree guards (i + 1) n k ws c) → (f : Frame) → decodeWord w ≡ decoded.Frame f → (x : Level) (n : State) → stepFrame f s ≡ stepped (outcome.Next x) n
+        → (v : Verdict) (k : Judging) → judgeFrame guards i f s j ≡ judged v k → Agree guards i s j (w ∷ ws) c
+    judge-case ih f e x n g verdict.Reducible k a = rw (e, a, g) (ih n k)
+    judge-case ih f e x n g (verdict.Violated v) k a = rw (e, a, g) (ap (λ (r : Reply). ended r s j) (after-reply (checkFrom (i + 1) n ws .reply) v c s j))
 
     step-case : ((n : State) (k : Judging) → Agree guards (i + 1) n k ws c) → (f : Frame) → decodeWord w ≡ decoded.Frame f → (o : Outcome) (n : State) → stepFrame f s ≡ stepped o n → Agree guards i s j (w ∷ ws) c
-    step-case ih f e outcome.Next n g = judge-case ih f e n g (judgeFrame guards i f s j .verdict) refl
+    step-case ih f e (outcome.Next x) n g = judge-case ih f e x n g (judgeFrame guards i f s j .verdict) (judgeFrame guards i f s j .judging) refl
     step-case ih f e (outcome.Bad r) n g = rw (e, g)
 
     decode-case : ((n : State) (k : Judging) → Agree guards (i + 1) n k ws c) → (d : Decoded) → decodeWord w ≡ d → Agree guards i s j (w ∷ ws) c

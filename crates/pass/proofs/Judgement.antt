@@ -64,7 +64,7 @@ turn-length guards i f s j = stepping (stepFrame f s .outcome) _ (judging (judge
     judging (verdict.Violated v) k e = e
 
     stepping : (o : Outcome) (x : Turned) → length (x .judging .sets) ≡ length (j .sets) → length (byOutcome o (stepFrame f s .state) j x .judging .sets) ≡ length (j .sets)
-    stepping outcome.Next x e = e
+    stepping (outcome.Next y) x e = e
     stepping (outcome.Bad r) x e = refl
 
 onward : (t : Turn) (i : ℕ) (s : State) (j : Judging) (e : Ended) → length (e .judging .sets) ≡ length (j .sets) → length (onTurn t i s j e .judging .sets) ≡ length (j .sets)

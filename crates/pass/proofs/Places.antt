@@ -148,7 +148,7 @@ turn-led guards i f s j b = stepping (stepFrame f s .outcome) (judging (judgeFra
         go (verdict.Violated v) w = record { wrong = w; next = h .next }
 
     stepping : (o : Outcome) {x : Turned} → Led i x → Led i (byOutcome o (stepFrame f s .state) j x)
-    stepping outcome.Next l = l
+    stepping (outcome.Next y) l = l
     stepping (outcome.Bad r) l = record { wrong = tt; next = later b }
 
 module _ (m i : ℕ) (s : State) (j : Judging) (h : i < m) where

@@ -27,13 +27,13 @@ use Rattle.pass.specs.Pass.{Ended, startJudging, judgement, setsLeft, fi
 use Rattle.pass.proofs.Fused.{fusedFrom, Answers, judgement-fused, fused-end, fused-bad, fused-turn}
 
 -- The pass is that of going on from place i with the state in the arrays.
-pub record Inv (words guards sets₀ sets owners depths hs begins commits : List ℕ) (i : ℕ) : Type 0 where
+pub record Inv (words guards sets₀ sets owners counts depths hs begins commits : List ℕ) (i : ℕ) : Type 0 where
   pub within : i ≤ length words
   pub follows : Follows hs owners
-  pub rest : fusedFrom guards 0 start (startJudging sets₀) words ≡ fusedFrom guards i (stateOf owners depths) (judgingOf begins commits sets) (drop i words)
+  pub rest : fusedFrom guards 0 start (startJudging sets₀) words ≡ fusedFrom guards i (stateOf owners counts depths) (judgingOf begins commits sets) (drop i words)
 
 pub starts : (words guards sets : List ℕ)
-    → Inv words guards sets sets (replicate lockCount 0) (replicate threadCount 0) (replicate threadCount 0) (replicate threadCount 0) (replicate threadCount 0) 0
+    → Inv words guards sets sets (replicate lockCount 0) (replicate lockCount 0) (replicate threadCount 0) (replicate threadCount 0) (replicate threadCount 0) (replicate threadCount 0) 0
 unfolding start startJudging
 starts words guards sets = record { within = omega arith; follows = none-held; rest = refl }
 
@@ -47,32 +47,32 @@ after-open : (q : CheckReply) (v : Violation) (m : Mark) → openUnder (afterChe
 after-open check.Sound v m = refl
 after-open (check.Refused r) v m = refl
 
-module _ {words guards sets₀ sets owners depths hs begins commits : List ℕ} {i : ℕ} (inv : Inv words guards sets₀ sets owners depths hs begins commits i)
+module _ {words guards sets₀ sets owners counts depths hs begins commits : List ℕ} {i : ℕ} (inv : Inv words guards sets₀ sets owners counts depths hs begins commits i)
     (fits : length words ≤ mostFrames) where
   -- what the pass answers and leaves, from its end
-  answered : {e : Ended} {r : Passed} {c : List ℕ} → fusedFrom guards i (stateOf owners depths) (judgingOf begins commits sets) (drop i words) ≡ e
+  answered : {e : Ended} {r : Passed} {c : List ℕ} → fusedFrom guards i (stateOf owners counts depths) (judgingOf begins commits sets) (drop i words) ≡ e
       → r ≡ passedWith (e .reply) (openAtEnd e) → c ≡ e .judging .sets
       → Gives guards sets₀ words r c
   answered {e} p q l =
       let a : Answers guards sets₀ words e = subst (Answers guards sets₀ words) (inv .rest ∙ p) (judgement-fused guards sets₀ words fits) in
       (ap (λ (x : Passed). x .reply) q ∙ sym (a .reply), (ap (λ (x : Passed). x .unclosed) q ∙ sym (a .unclosed), l ∙ sym (a .left)))
 
-  pub turn-end : length words ≤ i → {m : Mark} → m ≡ firstOpen (stateOf owners depths) (judgingOf begins commits sets)
+  pub turn-end : length words ≤ i → {m : Mark} → m ≡ firstOpen (stateOf owners counts depths) (judgingOf begins commits sets)
       → Gives guards sets₀ words (passedWith reducible m) sets
-  turn-end h e = answered {r = passedWith reducible _} (fused-end guards words i (stateOf owners depths) (judgingOf begins commits sets) h) (ap (passedWith reducible) e) refl
+  turn-end h e = answered {r = passedWith reducible _} (fused-end guards words i (stateOf owners counts depths) (judgingOf begins commits sets) h) (ap (passedWith reducible) e) refl
 
   module _ (h : i < length words) {r : Passed} where
     pub turn-bad : {b : Refusal} → decodeWord (getD words i 0) ≡ decoded.Bad b → r ≡ passedWith (refused b i) Absent
         → Gives guards sets₀ words r sets
-    turn-bad e q = answered (fused-bad guards words i (stateOf owners depths) (judgingOf begins commits sets) h e) q refl
+    turn-bad e q = answered (fused-bad guards words i (stateOf owners counts depths) (judgingOf begins commits sets) h e) q refl
 
     module _ {f : Frame} (e : decodeWord (getD words i 0) ≡ decoded.Frame f) {n : State} {k : Judging} where
-      pub turn-refused : {b : Refusal} → turned guards i f (stateOf owners depths) (judgingOf begins commits sets) ≡ turnedTo (turn.Refused b) n k
+      pub turn-refused : {b : Refusal} → turned guards i f (stateOf owners counts depths) (judgingOf begins commits sets) ≡ turnedTo (turn.Refused b) n k
           → r ≡ passedWith (refused b i) Absent
           → Gives guards sets₀ words r (k .sets)
       turn-refused t q = answered (fused-turn guards words i _ _ h e t) q (ap (λ (x : Judging). x .sets) (turn-keeps guards i f _ _ t))
 
-      pub turn-wrong : {v : Violation} → turned guards i f (stateOf owners depths) (judgingOf begins commits sets) ≡ turnedTo (turn.Wrong v) n k
+      pub turn-wrong : {v : Violation} → turned guards i f (stateOf owners counts depths) (judgingOf begins commits sets) ≡ turnedTo (turn.Wrong v) n k
           → r ≡ passedWith (afterCheck (checkFrom (i + 1) n (drop (i + 1) words) .reply) v) Absent
           → Gives guards sets₀ words r (k .sets)
       turn-wrong {v} t q =
@@ -81,6 +81,6 @@ module _ {words guards sets₀ sets owners depths hs begins commits : List ℕ} 
           (ap (λ (x : Judging). x .sets) (turn-keeps guards i f _ _ t))
 
   pub turn-next : i < length words → {f : Frame} → decodeWord (getD words i 0) ≡ decoded.Frame f → {n : State} {k : Judging} {hs′ : List ℕ}
-      → turned guards i f (stateOf owners depths) (judgingOf begins commits sets) ≡ turnedTo turn.Next n k → Follows hs′ (n .owners)
-      → Inv words guards sets₀ (k .sets) (n .owners) (n .depths) hs′ (k .begins) (k .commits) (i + 1)
+      → turned guards i f (stateOf owners counts depths) (judgingOf begins commits sets) ≡ turnedTo turn.Next n k → Follows hs′ (n .owners)
+      → Inv words guards sets₀ (k .sets) (n .owners) (n .counts) (n .depths) hs′ (k .begins) (k .commits) (i + 1)
   turn-next h e t u = record { within = omega arith; follows = u; rest = inv .rest ∙ fused-turn guards words i _ _ h e t }

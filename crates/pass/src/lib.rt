@@ -93,6 +93,7 @@ fn run(words: &[u32], guards: &[u8; VARIABLES], sets: &mut [u64; VARIABLES]) -> 
     ensures contents { λ r. ⌜ now (sets .exit) ≡ setsLeft (now (guards .entry)) (now (sets .entry)) (now (words .entry)) ⌝ }
 {
     let mut owners = [0u8; LOCKS];
+    let mut counts = [0u8; LOCKS];
     let mut depths = [0u8; THREADS];
     let mut held = [0u64; THREADS];
     let mut begins = [0u32; THREADS];
@@ -107,6 +108,7 @@ fn run(words: &[u32], guards: &[u8; VARIABLES], sets: &mut [u64; VARIABLES]) -> 
         let q = turn::judge_frame(
             guards,
             &mut owners,
+            &mut counts,
             &mut depths,
             &mut held,
             &mut begins,
@@ -120,7 +122,13 @@ fn run(words: &[u32], guards: &[u8; VARIABLES], sets: &mut [u64; VARIABLES]) -> 
                 return refused(r, i);
             }
             Turn::Wrong(v) => {
-                let c = soundness::check_from(words, &mut owners, &mut depths, i as usize + 1);
+                let c = soundness::check_from(
+                    words,
+                    &mut owners,
+                    &mut counts,
+                    &mut depths,
+                    i as usize + 1,
+                );
                 return after_check(c, v);
             }
             Turn::Next => {}

@@ -7,10 +7,11 @@ use Rattle.frame.specs.declared.Lock.{Lock}
 use Rattle.frame.specs.declared.Variable.{Variable}
 use Rattle.frame.specs.declared.Action.{Action}
 use Rattle.frame.specs.declared.Frame.{Frame}
+use Rattle.soundness.specs.declared.Level.{Level}
 use Rattle.operation.specs.Operation.{operationOf}
 use Rattle.operation.specs.declared.Operation.{Operation}
 use Rattle.operation.specs.declared.Operation.the-variants.{Protected, Inferred}
-use Rattle.reduction.proofs.Run.{threadOf, Run, begin, owners, committing, onto, commitPlace, keyOf, keyed}
+use Rattle.reduction.proofs.Run.{threadOf, Run, begin, owners, committing, levelIn, onto, commitPlace, keyOf, keyed}
 use Rattle.reduction.proofs.Serial.{serialOrder}
 
 -- Two operations that do the same to locks and commits.
@@ -24,9 +25,11 @@ alike-same k = record { owner = λ o t. refl; commit = refl }
 pub alike-inferred : (v : Variable) (m : Lock) → Alike (Inferred v) (Protected m)
 alike-inferred v m = record { owner = λ o t. refl; commit = refl }
 
-module _ (guards guards′ : List ℕ) (alike : (a : Action) → Alike (operationOf guards a) (operationOf guards′ a)) where
+module _ (guards guards′ : List ℕ) (alike : (x : Level) (a : Action) → Alike (operationOf guards x a) (operationOf guards′ x a)) where
   pub onto-alike : (s : Run) (n : ℕ) (f : Frame) → onto guards s n f ≡ onto guards′ s n f
-  onto-alike s n f = rw (alike (f .action) .owner (s .owner) (threadOf f), alike (f .action) .commit)
+  onto-alike s n f =
+      let a = alike (levelIn s (threadOf f) (f .action)) (f .action) in
+      rw (a .owner (s .owner) (threadOf f), a .commit)
 
   commitPlace-alike : (t : ℕ) (s : Run) (n : ℕ) (l : List Frame) → commitPlace guards t s n l ≡ commitPlace guards′ t s n l
   commitPlace-alike t s n [] = refl

@@ -19,11 +19,13 @@ use Rattle.frame.specs.declared.Frame.{Frame}
 use Rattle.guards.specs.Guards.{guardOf}
 use Rattle.guards.specs.declared.Guard.{Guard}
 use Rattle.guards.specs.declared.Guard.the-variants as guard
+use Rattle.soundness.specs.declared.Level.{Level}
+use Rattle.soundness.specs.declared.Level.the-variants.{Outer, Inner}
 use Rattle.operation.specs.Operation.{guardedAccess, operationOf}
 use Rattle.operation.specs.declared.Operation.{Operation}
 use Rattle.operation.specs.declared.Operation.the-variants.{Acquire, Release, Protected, Unprotected, Inferred, Begin, End}
 use Rattle.exchange.specs.Independent.{independent}
-use Rattle.reduction.proofs.Run.{threadOf, Run, Keyed, sound, right, owners, committing, seen, onto, Good, commitPlace, keyOf, keyed}
+use Rattle.reduction.proofs.Run.{threadOf, Run, Keyed, sound, right, owners, committing, levelIn, seen, named, onto, Good, commitPlace, keyOf, keyed}
 use Rattle.reduction.proofs.Sort.{All, all-map, all-intro, all-map₂, Ordered, Right}
 use Rattle.reduction.proofs.Dependent.{OfLock, OfVariable, Common, lock, variable, dependent}
 use Rattle.reduction.proofs.Steps.{put-same, put-cases, Fresh, Past, late-keys, fresh-next, Turn, turn, here, on, other, key-before, key-after, past-next}
@@ -165,25 +167,47 @@ owner-stays s t u m Begin e h c = h
 owner-stays s t u m End e h c = h
 
 module _ (guards : List ℕ) where
+  -- An inner acquire or release, which is seen as an access under its lock, holds, uses and has in common with others what it would as an
+  -- outer one.
+  levels : (P : Operation → Operation → Type 0) → ((k : Operation) → P k k) → ((l : Lock) → P (Protected l) (Acquire l))
+      → ((l : Lock) → P (Protected l) (Release l)) → (x : Level) (a : Action) → P (operationOf guards x a) (operationOf guards Outer a)
+  levels P r p q Outer a = r (operationOf guards Outer a)
+  levels P r p q Inner (action.Acquire l) = p l
+  levels P r p q Inner (action.Release l) = q l
+  levels P r p q Inner (action.Read v) = r (operationOf guards Outer (action.Read v))
+  levels P r p q Inner (action.Write v) = r (operationOf guards Outer (action.Write v))
+  levels P r p q Inner action.Begin = r Begin
+  levels P r p q Inner action.End = r End
+
+  level-held : (s : Run) (u : ℕ) (x : Level) (a : Action) → Held s u (operationOf guards x a) → Held s u (operationOf guards Outer a)
+  level-held s u = levels (λ k k′. Held s u k → Held s u k′) (λ k h. h) (λ l h. h) (λ l h. h)
+
+  level-uses : (m : ℕ) (x : Level) (a : Action) → Uses m (operationOf guards Outer a) → Uses m (operationOf guards x a)
+  level-uses m = levels (λ k k′. Uses m k′ → Uses m k) (λ k h. h) (λ l h. h) (λ l h. h)
+
+  level-same : (o : Operation) (x : Level) (a : Action) → Same (operationOf guards Outer a) o → Same (operationOf guards x a) o
+  level-same o = levels (λ k k′. Same k′ o → Same k o) (λ k h. h) (λ l h. h) (λ l h. h)
+
   -- What a thread after a commit before N still touches it holds already.
   held-keys : (u N : ℕ) (s : Run) (n : ℕ) (l : List Frame) → Good guards s n l → N ≤ n
-      → All (λ x. threadOf (x .frame) ≡ u → x .key < N → Held s u (seen guards (x .frame))) (keyed guards s n l)
+      → All (λ x. threadOf (x .frame) ≡ u → x .key < N → Held s u (named guards (x .frame))) (keyed guards s n l)
   held-keys u N s n [] h p = tt
   held-keys u N s n (f ∷ l) h p = go (fresh-dec N (s .committed u)) (held-keys u N (onto guards s n f) (suc n) l (h .2) (omega arith))
     where
       go : Fresh N (s .committed u) ⊎ (s .committed u ≡ 0 → ⊥)
-          → All (λ x. threadOf (x .frame) ≡ u → x .key < N → Held (onto guards s n f) u (seen guards (x .frame)))
+          → All (λ x. threadOf (x .frame) ≡ u → x .key < N → Held (onto guards s n f) u (named guards (x .frame)))
           (keyed guards (onto guards s n f) (suc n) l)
-          → All (λ x. threadOf (x .frame) ≡ u → x .key < N → Held s u (seen guards (x .frame))) (keyed guards s n (f ∷ l))
+          → All (λ x. threadOf (x .frame) ≡ u → x .key < N → Held s u (named guards (x .frame))) (keyed guards s n (f ∷ l))
       go (inl q) ih =
           all-map (λ x a e b. absurd (let z : N ≤ x .key = a e in omega arith)) (keyed guards s n (f ∷ l))
           (late-keys guards u N s n (f ∷ l) p q)
       go (inr q) ih = (
-        λ e b. held-now s u (seen guards f) (subst (λ (i : ℕ). sound s i (seen guards f) ≡ true) e (h .0))
-            (subst (λ (i : ℕ). right s i (seen guards f) ≡ true) e (h .1)) q,
+        λ e b. level-held s u (levelIn s (threadOf f) (f .action)) (f .action)
+            (held-now s u (seen guards s f) (subst (λ (i : ℕ). sound s i (seen guards s f) ≡ true) e (h .0))
+            (subst (λ (i : ℕ). right s i (seen guards s f) ≡ true) e (h .1)) q),
         all-map
-            (λ x a e b. held-map s (onto guards s n f) u (seen guards (x .frame))
-            (λ m. owner-back (s .owner) (threadOf f) u (seen guards f) m (no-take s (threadOf f) u (seen guards f) (h .1) q)) (a e b))
+            (λ x a e b. held-map s (onto guards s n f) u (named guards (x .frame))
+            (λ m. owner-back (s .owner) (threadOf f) u (seen guards s f) m (no-take s (threadOf f) u (seen guards s f) (h .1) q)) (a e b))
             (keyed guards (onto guards s n f) (suc n) l) ih,
       )
 
@@ -194,8 +218,8 @@ module _ (guards : List ℕ) where
   all-threads Q (x ∷ l) h = (h (threadOf (x .frame)) .0 refl, all-threads Q l (λ u. h u .1))
 
   held-all : (N : ℕ) (s : Run) (n : ℕ) (l : List Frame) → Good guards s n l → N ≤ n
-      → All (λ x. x .key < N → Held s (threadOf (x .frame)) (seen guards (x .frame))) (keyed guards s n l)
-  held-all N s n l h p = all-threads (λ u x. x .key < N → Held s u (seen guards (x .frame))) (keyed guards s n l) (λ u. held-keys u N s n l h p)
+      → All (λ x. x .key < N → Held s (threadOf (x .frame)) (named guards (x .frame))) (keyed guards s n l)
+  held-all N s n l h p = all-threads (λ u x. x .key < N → Held s u (named guards (x .frame))) (keyed guards s n l) (λ u. held-keys u N s n l h p)
 
   -- The keys of a thread that is not after commit are at least its unit's commit.
   own-keys : (t K : ℕ) (s : Run) (n : ℕ) (l : List Frame) → s .committed t ≡ 0 → commitPlace guards t s n l ≡ K
@@ -215,23 +239,23 @@ module _ (guards : List ℕ) where
   -- While a thread that is not after commit holds a lock, no other thread's frame that uses the lock has a key below its commit.
   lock-keys : (t m K : ℕ) (s : Run) (n : ℕ) (l : List Frame) → Good guards s n l → s .committed t ≡ 0 → s .owner m ≡ suc t
       → commitPlace guards t s n l ≡ K
-      → All (λ x. (threadOf (x .frame) ≡ t → ⊥) → Uses m (seen guards (x .frame)) → K ≤ x .key) (keyed guards s n l)
+      → All (λ x. (threadOf (x .frame) ≡ t → ⊥) → Uses m (named guards (x .frame)) → K ≤ x .key) (keyed guards s n l)
   lock-keys t m K s n [] h c o p = tt
   lock-keys t m K s n (f ∷ l) h c o p = go (turn guards t K s n f l c p) (lock-keys t m K (onto guards s n f) (suc n) l (h .2))
     where
       go : Turn guards t K s n f l
           → (onto guards s n f .committed t ≡ 0 → onto guards s n f .owner m ≡ suc t → commitPlace guards t (onto guards s n f) (suc n) l ≡ K
-          → All (λ x. (threadOf (x .frame) ≡ t → ⊥) → Uses m (seen guards (x .frame)) → K ≤ x .key) (keyed guards (onto guards s n f) (suc n) l))
-          → All (λ x. (threadOf (x .frame) ≡ t → ⊥) → Uses m (seen guards (x .frame)) → K ≤ x .key) (keyed guards s n (f ∷ l))
+          → All (λ x. (threadOf (x .frame) ≡ t → ⊥) → Uses m (named guards (x .frame)) → K ≤ x .key) (keyed guards (onto guards s n f) (suc n) l))
+          → All (λ x. (threadOf (x .frame) ≡ t → ⊥) → Uses m (named guards (x .frame)) → K ≤ x .key) (keyed guards s n (f ∷ l))
       go (here e q r) ih =
           all-map
           (λ x a ne u. by-test (leb K (x .key)) (leb-true K (x .key))
-          (λ b. absurd (omega (arith, uses-held s (threadOf (x .frame)) m (seen guards (x .frame)) u (a (leb-false K (x .key) b))))))
+          (λ b. absurd (omega (arith, uses-held s (threadOf (x .frame)) m (named guards (x .frame)) u (a (leb-false K (x .key) b))))))
           (keyed guards s n (f ∷ l)) (held-all K s n (f ∷ l) h (omega arith))
-      go (on e b c′ d q) ih = (λ ne. absurd (ne e), ih c′ (owner-stays s t (threadOf f) m (seen guards f) (h .0) o (λ r. b)) q)
+      go (on e b c′ d q) ih = (λ ne. absurd (ne e), ih c′ (owner-stays s t (threadOf f) m (seen guards s f) (h .0) o (λ r. b)) q)
       go (other e c′ q) ih = (
-        λ ne u. absurd (uses-fine s t (threadOf f) m (seen guards f) (h .0) (h .1) u o e),
-        ih c′ (owner-stays s t (threadOf f) m (seen guards f) (h .0) o (λ r. absurd (e r))) q,
+        λ ne u. absurd (uses-fine s t (threadOf f) m (seen guards s f) (h .0) (h .1) (level-uses m (levelIn s (threadOf f) (f .action)) (f .action) u) o e),
+        ih c′ (owner-stays s t (threadOf f) m (seen guards s f) (h .0) o (λ r. absurd (e r))) q,
       )
 
   -- A frame against the later ones of its own thread.
@@ -246,12 +270,13 @@ module _ (guards : List ℕ) where
 
   -- A frame whose key is not after it, against the later ones of other threads.
   early-key : (K : ℕ) (s : Run) (n : ℕ) (f : Frame) (l : List Frame) → Good guards s n (f ∷ l) → K ≤ n
-      → All (λ y. (threadOf (y .frame) ≡ threadOf f → ⊥) → Same (seen guards f) (seen guards (y .frame)) → K ≤ y .key)
+      → All (λ y. (threadOf (y .frame) ≡ threadOf f → ⊥) → Same (named guards f) (named guards (y .frame)) → K ≤ y .key)
       (keyed guards (onto guards s n f) (suc n) l)
   early-key K s n f l h p =
       all-map
       (λ y a ne q. by-test (leb K (y .key)) (leb-true K (y .key))
-      (λ b. absurd (same-held s (threadOf f) (threadOf (y .frame)) (seen guards f) (seen guards (y .frame)) (h .0) (h .1) q
+      (λ b. absurd (same-held s (threadOf f) (threadOf (y .frame)) (seen guards s f) (named guards (y .frame)) (h .0) (h .1)
+      (level-same (named guards (y .frame)) (levelIn s (threadOf f) (f .action)) (f .action) q)
       (a (leb-false K (y .key) b)) ne)))
       (keyed guards (onto guards s n f) (suc n) l) (held-all K s n (f ∷ l) h p .1)
 
@@ -259,7 +284,7 @@ module _ (guards : List ℕ) where
   late-key : (K : ℕ) (s : Run) (n t : ℕ) (k : Operation) (s′ : Run) (l : List Frame) → right s t k ≡ true
       → owners (s .owner) t k ≡ s′ .owner
       → committing k ≡ false → Good guards s′ (suc n) l → s′ .committed t ≡ 0 → commitPlace guards t s′ (suc n) l ≡ K
-      → All (λ y. (threadOf (y .frame) ≡ t → ⊥) → Same k (seen guards (y .frame)) → K ≤ y .key) (keyed guards s′ (suc n) l)
+      → All (λ y. (threadOf (y .frame) ≡ t → ⊥) → Same k (named guards (y .frame)) → K ≤ y .key) (keyed guards s′ (suc n) l)
   late-key K s n t (Acquire m) s′ l e o b h c p =
       lock-keys t (m .0) K s′ (suc n) l h c (sym (ap (λ (w : ℕ → ℕ). w (m .0)) o) ∙ put-same (s .owner) (m .0) (suc t) (m .0) refl) p
   late-key K s n t (Release m) s′ l e o b h c p = absurd (true≢false b)
@@ -272,7 +297,7 @@ module _ (guards : List ℕ) where
 
   -- A frame against the later ones of other threads.
   other-thread : (s : Run) (n : ℕ) (f : Frame) (l : List Frame) → Good guards s n (f ∷ l) → Past s n
-      → All (λ y. (threadOf (y .frame) ≡ threadOf f → ⊥) → Same (seen guards f) (seen guards (y .frame)) → keyOf guards s n f l ≤ y .key)
+      → All (λ y. (threadOf (y .frame) ≡ threadOf f → ⊥) → Same (named guards f) (named guards (y .frame)) → keyOf guards s n f l ≤ y .key)
       (keyed guards (onto guards s n f) (suc n) l)
   other-thread s n f l h r = by-test (eqb (s .committed (threadOf f)) 0)
       (λ b. go (turn guards (threadOf f) (keyOf guards s n f l) s n f l (eqb-true _ _ b)
@@ -280,14 +305,17 @@ module _ (guards : List ℕ) where
       (λ b. early-key (keyOf guards s n f l) s n f l h (omega (arith, r (threadOf f), key-after guards s n f l (eqb-false _ _ b))))
     where
       go : Turn guards (threadOf f) (keyOf guards s n f l) s n f l
-          → All (λ y. (threadOf (y .frame) ≡ threadOf f → ⊥) → Same (seen guards f) (seen guards (y .frame)) → keyOf guards s n f l ≤ y .key)
+          → All (λ y. (threadOf (y .frame) ≡ threadOf f → ⊥) → Same (named guards f) (named guards (y .frame)) → keyOf guards s n f l ≤ y .key)
           (keyed guards (onto guards s n f) (suc n) l)
       go (here e q d) = early-key (keyOf guards s n f l) s n f l h (omega (arith, q))
-      go (on e b c d q) = late-key (keyOf guards s n f l) s n (threadOf f) (seen guards f) (onto guards s n f) l (h .1) refl b (h .2) c q
+      go (on e b c d q) =
+          all-map (λ y a ne r. a ne (level-same (named guards (y .frame)) (levelIn s (threadOf f) (f .action)) (f .action) r))
+          (keyed guards (onto guards s n f) (suc n) l)
+          (late-key (keyOf guards s n f l) s n (threadOf f) (seen guards s f) (onto guards s n f) l (h .1) refl b (h .2) c q)
       go (other e c q) = absurd (e refl)
 
   -- A frame with a lock or a variable in common with another relies on the same as the other.
-  uses-lock : (m : ℕ) (a : Action) → OfLock m a → Uses m (operationOf guards a)
+  uses-lock : (m : ℕ) (a : Action) → OfLock m a → Uses m (operationOf guards Outer a)
   uses-lock m (action.Acquire l) e = e
   uses-lock m (action.Release l) e = e
   uses-lock m (action.Read v) e = absurd e
@@ -295,9 +323,9 @@ module _ (guards : List ℕ) where
   uses-lock m action.Begin e = absurd e
   uses-lock m action.End e = absurd e
 
-  same-lock : (m : ℕ) (a b : Action) → OfLock m a → OfLock m b → Same (operationOf guards a) (operationOf guards b)
-  same-lock m (action.Acquire l) b e q = subst (λ (k : ℕ). Uses k (operationOf guards b)) e (uses-lock m b q)
-  same-lock m (action.Release l) b e q = subst (λ (k : ℕ). Uses k (operationOf guards b)) e (uses-lock m b q)
+  same-lock : (m : ℕ) (a b : Action) → OfLock m a → OfLock m b → Same (operationOf guards Outer a) (operationOf guards Outer b)
+  same-lock m (action.Acquire l) b e q = subst (λ (k : ℕ). Uses k (operationOf guards Outer b)) e (uses-lock m b q)
+  same-lock m (action.Release l) b e q = subst (λ (k : ℕ). Uses k (operationOf guards Outer b)) e (uses-lock m b q)
   same-lock m (action.Read v) b e q = absurd e
   same-lock m (action.Write v) b e q = absurd e
   same-lock m action.Begin b e q = absurd e
@@ -306,7 +334,7 @@ module _ (guards : List ℕ) where
   abbrev accessAt : ℕ → Variable → Operation
   accessAt x v = guardedAccess (guardOf (getD guards x 0)) v
 
-  of-variable : (x : ℕ) (a : Action) → OfVariable x a → (v : Variable) × (operationOf guards a ≡ accessAt x v)
+  of-variable : (x : ℕ) (a : Action) → OfVariable x a → (v : Variable) × (operationOf guards Outer a ≡ accessAt x v)
   of-variable x (action.Acquire l) e = absurd e
   of-variable x (action.Release l) e = absurd e
   of-variable x (action.Read v) e = (v, ap (λ (y : ℕ). accessAt y v) (sym e))
@@ -314,19 +342,19 @@ module _ (guards : List ℕ) where
   of-variable x action.Begin e = absurd e
   of-variable x action.End e = absurd e
 
-  same-variable : (x : ℕ) (a b : Action) → OfVariable x a → OfVariable x b → Same (operationOf guards a) (operationOf guards b)
+  same-variable : (x : ℕ) (a b : Action) → OfVariable x a → OfVariable x b → Same (operationOf guards Outer a) (operationOf guards Outer b)
   same-variable x a b p q =
-      let v : (v : Variable) × (operationOf guards a ≡ accessAt x v) = of-variable x a p in
-      let w : (v : Variable) × (operationOf guards b ≡ accessAt x v) = of-variable x b q in
-      subst (λ (k : Operation). Same k (operationOf guards b)) (sym (v .1))
+      let v : (v : Variable) × (operationOf guards Outer a ≡ accessAt x v) = of-variable x a p in
+      let w : (v : Variable) × (operationOf guards Outer b ≡ accessAt x v) = of-variable x b q in
+      subst (λ (k : Operation). Same k (operationOf guards Outer b)) (sym (v .1))
       (subst (λ (k : Operation). Same (accessAt x (v .0)) k) (sym (w .1)) (same-access (guardOf (getD guards x 0)) (v .0) (w .0)))
 
-  same-common : (a b : Action) → Common a b → Same (operationOf guards a) (operationOf guards b)
+  same-common : (a b : Action) → Common a b → Same (operationOf guards Outer a) (operationOf guards Outer b)
   same-common a b (lock m p q) = same-lock m a b p q
   same-common a b (variable x p q) = same-variable x a b p q
 
   right-way : (x y : Keyed Frame) → (threadOf (y .frame) ≡ threadOf (x .frame) → x .key ≤ y .key)
-      → ((threadOf (y .frame) ≡ threadOf (x .frame) → ⊥) → Same (seen guards (x .frame)) (seen guards (y .frame)) → x .key ≤ y .key)
+      → ((threadOf (y .frame) ≡ threadOf (x .frame) → ⊥) → Same (named guards (x .frame)) (named guards (y .frame)) → x .key ≤ y .key)
       → Right independent x y
   right-way x y a b =
       by-test (independent (x .frame) (y .frame)) inl

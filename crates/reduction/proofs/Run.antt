@@ -1,13 +1,17 @@
 -- A recording's run over states of functions: the steps that are sound and do not go wrong under declared guards, and the place of each
 -- frame's commit. What the code's states of lists have to do with these is in View.
-use Prim.Native.Nat.{ℕ, suc, pred}
+use Prim.Native.Nat.{ℕ, suc, pred, _+_, _-_}
 use mathlib.Core.Path.{_≡_}
 use mathlib.Core.Bool.{Bool, true, false, cond, not, _&&_, _||_}
 use mathlib.Core.List.{List, [], _∷_}
-use lib.Dec.{eqb, ltb}
+use lib.Dec.{eqb, leb, ltb}
 use Rattle.frame.specs.Limits.{deepest}
 use Rattle.frame.specs.declared.Frame.{Frame}
+use Rattle.frame.specs.declared.Action.{Action}
+use Rattle.frame.specs.declared.Action.the-variants as action
 use Rattle.soundness.specs.Soundness.{nest}
+use Rattle.soundness.specs.declared.Level.{Level}
+use Rattle.soundness.specs.declared.Level.the-variants.{Outer, Inner}
 use Rattle.operation.specs.Operation.{operationOf}
 use Rattle.operation.specs.declared.Operation.{Operation}
 use Rattle.operation.specs.declared.Operation.the-variants.{Acquire, Release, Protected, Unprotected, Inferred, Begin, End}
@@ -16,20 +20,39 @@ use Rattle.operation.specs.declared.Operation.the-variants.{Acquire, Release, P
 abbrev pub threadOf : Frame → ℕ
 threadOf f = f .thread .0
 
--- `owner` has 0 for a free lock, and t + 1 for one that the thread t holds. `committed` has 0 for a thread that is outside or before commit,
+-- `owner` has 0 for a free lock, and t + 1 for one that the thread t holds, `count` how often it is held. `committed` has 0 for a thread that is outside or before commit,
 -- and c + 1 for one that is after the commit at the place c.
 pub record Run : Type 0 where
   pub owner : ℕ → ℕ
+  pub count : ℕ → ℕ
   pub depth : ℕ → ℕ
   pub committed : ℕ → ℕ
 
 abbrev pub begin : Run
-begin = record { owner = λ m. 0; depth = λ t. 0; committed = λ t. 0 }
+begin = record { owner = λ m. 0; count = λ m. 0; depth = λ t. 0; committed = λ t. 0 }
 
 abbrev pub put : (ℕ → ℕ) → ℕ → ℕ → ℕ → ℕ
 put f k v i = cond (eqb i k) v (f i)
 
--- A step that refusals 7 to 10 let pass.
+-- Whether an action of thread t is an inner acquire or release.
+abbrev pub levelIn : Run → ℕ → Action → Level
+levelIn s t (action.Acquire l) = cond (eqb (s .owner (l .0)) (suc t)) Inner Outer
+levelIn s t (action.Release l) = cond (eqb (s .owner (l .0)) (suc t)) (cond (leb (s .count (l .0)) 1) Outer Inner) Outer
+levelIn s t (action.Read v) = Outer
+levelIn s t (action.Write v) = Outer
+levelIn s t action.Begin = Outer
+levelIn s t action.End = Outer
+
+-- How often the locks are held after an action of thread t.
+abbrev pub counted : Run → ℕ → Action → ℕ → ℕ
+counted s t (action.Acquire l) = put (s .count) (l .0) (cond (eqb (s .owner (l .0)) (suc t)) (s .count (l .0) + 1) 1)
+counted s t (action.Release l) = put (s .count) (l .0) (cond (leb (s .count (l .0)) 1) 0 (s .count (l .0) - 1))
+counted s t (action.Read v) = s .count
+counted s t (action.Write v) = s .count
+counted s t action.Begin = s .count
+counted s t action.End = s .count
+
+-- A step that the refusals 7 to 10 let pass. That of 20 is not asked for.
 abbrev pub sound : Run → ℕ → Operation → Bool
 sound s t (Acquire m) = eqb (s .owner (m .0)) 0
 sound s t (Release m) = eqb (s .owner (m .0)) (suc t)
@@ -73,10 +96,11 @@ committing End = false
 abbrev pub commitAfter : ℕ → ℕ → ℕ → Operation → ℕ
 commitAfter d c n k = cond (eqb d 0) 0 (cond (committing k && eqb c 0) (suc n) c)
 
--- The run after an operation of thread t that leaves it at depth d.
-abbrev pub afterwards : Run → ℕ → ℕ → ℕ → Operation → Run
-afterwards s n t d k = record {
+-- The run after an operation of thread t that leaves it at depth d, and the locks held c times.
+abbrev pub afterwards : Run → ℕ → ℕ → ℕ → (ℕ → ℕ) → Operation → Run
+afterwards s n t d c k = record {
   owner = owners (s .owner) t k;
+  count = c;
   depth = put (s .depth) t d;
   committed = put (s .committed) t (commitAfter d (s .committed t) n k);
 }
@@ -100,17 +124,21 @@ pub record Keyed (A : Type 0) : Type 0 where
   pub frame : A
 
 module _ (guards : List ℕ) where
-  -- A frame as the rules see it.
-  abbrev pub seen : Frame → Operation
-  seen f = operationOf guards (f .action)
+  -- A frame as the rules see it, and as they would see it where it is no inner acquire or release: this does not depend on the run, and names
+  -- the same lock.
+  abbrev pub seen : Run → Frame → Operation
+  seen s f = operationOf guards (levelIn s (threadOf f) (f .action)) (f .action)
+
+  abbrev pub named : Frame → Operation
+  named f = operationOf guards Outer (f .action)
 
   abbrev pub onto : Run → ℕ → Frame → Run
-  onto s n f = afterwards s n (threadOf f) (nest (s .depth (threadOf f)) (f .action)) (seen f)
+  onto s n f = afterwards s n (threadOf f) (nest (s .depth (threadOf f)) (f .action)) (counted s (threadOf f) (f .action)) (seen s f)
 
   -- No frame from here on is refused, and none goes wrong.
   abbrev pub Good : Run → ℕ → List Frame → Type 0
   Good s n [] = Unit {0}
-  Good s n (f ∷ l) = (sound s (threadOf f) (seen f) ≡ true) × (right s (threadOf f) (seen f) ≡ true) × Good (onto s n f) (suc n) l
+  Good s n (f ∷ l) = (sound s (threadOf f) (seen s f) ≡ true) × (right s (threadOf f) (seen s f) ≡ true) × Good (onto s n f) (suc n) l
 
   -- The commit of the unit that the thread t, outside or before commit, is in or comes to next: its first frame that leaves it outside or
   -- after commit.

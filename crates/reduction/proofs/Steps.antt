@@ -57,7 +57,7 @@ module _ (guards : List ℕ) where
   commit-elim P s n u f p q r =
       put-cases P (s .committed) (threadOf f) _ u
       (λ e. either P (eqb (nest (s .depth (threadOf f)) (f .action)) 0) r
-      (either P (committing (seen guards f) && eqb (s .committed (threadOf f)) 0) (q e) (subst (λ (i : ℕ). P (s .committed i)) e p)))
+      (either P (committing (seen guards s f) && eqb (s .committed (threadOf f)) 0) (q e) (subst (λ (i : ℕ). P (s .committed i)) e p)))
       (λ e. p)
 
   pub fresh-next : (N : ℕ) (s : Run) (n u : ℕ) (f : Frame) → N ≤ n → Fresh N (s .committed u) → Fresh N (onto guards s n f .committed u)
@@ -93,9 +93,9 @@ module _ (guards : List ℕ) where
   depth-own t s n f e = put-own (s .depth) (λ j. nest (s .depth j) (f .action)) (threadOf f) t e
 
   committed-own : (t : ℕ) (s : Run) (n : ℕ) (f : Frame) → threadOf f ≡ t
-      → onto guards s n f .committed t ≡ commitAfter (nest (s .depth t) (f .action)) (s .committed t) n (seen guards f)
+      → onto guards s n f .committed t ≡ commitAfter (nest (s .depth t) (f .action)) (s .committed t) n (seen guards s f)
   committed-own t s n f e =
-      put-own (s .committed) (λ j. commitAfter (nest (s .depth j) (f .action)) (s .committed j) n (seen guards f)) (threadOf f) t e
+      put-own (s .committed) (λ j. commitAfter (nest (s .depth j) (f .action)) (s .committed j) n (seen guards s f)) (threadOf f) t e
 
   -- A frame keeps its thread's commit, or leaves the thread outside, where it has none.
   pub commit-keeps : (t : ℕ) (s : Run) (n : ℕ) (f : Frame) → threadOf f ≡ t → (s .committed t ≡ 0 → ⊥)
@@ -111,7 +111,7 @@ module _ (guards : List ℕ) where
   pub data Turn (t K : ℕ) (s : Run) (n : ℕ) (f : Frame) (l : List Frame) : Type 0 where
     here : threadOf f ≡ t → n ≡ K → (onto guards s n f .depth t ≡ 0) ⊎ (onto guards s n f .committed t ≡ suc n) → Turn t K s n f l
     on :
-        threadOf f ≡ t → committing (seen guards f) ≡ false → onto guards s n f .committed t ≡ 0 → (onto guards s n f .depth t ≡ 0 → ⊥)
+        threadOf f ≡ t → committing (seen guards s f) ≡ false → onto guards s n f .committed t ≡ 0 → (onto guards s n f .depth t ≡ 0 → ⊥)
         → commitPlace guards t (onto guards s n f) (suc n) l ≡ K → Turn t K s n f l
     other : (threadOf f ≡ t → ⊥) → onto guards s n f .committed t ≡ 0 → commitPlace guards t (onto guards s n f) (suc n) l ≡ K
         → Turn t K s n f l
@@ -133,9 +133,9 @@ module _ (guards : List ℕ) where
           (commit-elim (λ x. (x ≡ 0 → ⊥) → x ≡ suc n) s n t f (λ z. absurd (z c)) (λ e z. refl) (λ z. absurd (z refl)) (eqb-false _ _ ev)))
       go true false true ea eb ev q =
           let e : threadOf f ≡ t = eqb-true _ _ ea in
-          let now : s′ .committed t ≡ commitAfter (nest (s .depth t) (f .action)) 0 n (seen guards f) =
-          committed-own t s n f e ∙ ap (λ (j : ℕ). commitAfter (nest (s .depth t) (f .action)) j n (seen guards f)) c in
-          on e (quiet (nest (s .depth t) (f .action)) n (seen guards f) (sym now ∙ eqb-true _ _ ev)
+          let now : s′ .committed t ≡ commitAfter (nest (s .depth t) (f .action)) 0 n (seen guards s f) =
+          committed-own t s n f e ∙ ap (λ (j : ℕ). commitAfter (nest (s .depth t) (f .action)) j n (seen guards s f)) c in
+          on e (quiet (nest (s .depth t) (f .action)) n (seen guards s f) (sym now ∙ eqb-true _ _ ev)
           (λ z. eqb-false _ _ eb (depth-own t s n f e ∙ z))) (eqb-true _ _ ev) (eqb-false _ _ eb) q
       go false b v ea eb ev q = other (eqb-false _ _ ea) (put-other (s .committed) (threadOf f) _ t (λ e. eqb-false _ _ ea (sym e)) ∙ c) q
 

@@ -32,8 +32,9 @@ refusal-numbered refusal.SetTable = omega arith
 refusal-numbered refusal.LineBuffer = omega arith
 refusal-numbered refusal.VerdictLine = omega arith
 refusal-numbered refusal.TextBuffer = omega arith
+refusal-numbered refusal.TooOften = omega arith
 
--- the sentences in the order of their numbers, then those of 7 to 10 whose frame is not known
+-- the sentences in the order of their numbers, then those of 7 to 10 and of 20 whose frame is not known
 abbrev refusalLines : List ℕ
 refusalLines =
     bytes (refusalSentence refusal.Line true)
@@ -55,10 +56,12 @@ refusalLines =
     ++ (bytes (refusalSentence refusal.LineBuffer true)
     ++ (bytes (refusalSentence refusal.VerdictLine true)
     ++ (bytes (refusalSentence refusal.TextBuffer true)
+    ++ (bytes (refusalSentence refusal.TooOften true)
     ++ (bytes (refusalSentence refusal.LockTaken false)
     ++ (bytes (refusalSentence refusal.LockNotHeld false)
     ++ (bytes (refusalSentence refusal.TooDeep false)
-    ++ (bytes (refusalSentence refusal.NoOpenBlock false)))))))))))))))))))))))
+    ++ (bytes (refusalSentence refusal.NoOpenBlock false)
+    ++ (bytes (refusalSentence refusal.TooOften false)))))))))))))))))))))))))
 
 -- the line of a refusal is its sentence
 pub refusal-line : (r : Refusal) (k : Bool) → nthLine (sentenceLine (refusalNumber r) k) refusalLines ≡ bytes (refusalSentence r k)
@@ -101,3 +104,5 @@ refusal-line refusal.VerdictLine true = refl
 refusal-line refusal.VerdictLine false = refl
 refusal-line refusal.TextBuffer true = refl
 refusal-line refusal.TextBuffer false = refl
+refusal-line refusal.TooOften true = refl
+refusal-line refusal.TooOften false = refl

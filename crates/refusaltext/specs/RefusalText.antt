@@ -23,8 +23,9 @@ refusalSentence refusal.Operation k = "refused: number 4, @ of % has an operatio
 refusalSentence refusal.Thread k = "refused: number 5, @ of % has a thread above 1F; mend its digits 3 and 4.\n"
 refusalSentence refusal.Object k =
     "refused: number 6, @ of % has an object out of range; locks go up to 003F, variables up to 03FF, and a begin or an end has 0000.\n"
-refusalSentence refusal.LockTaken true = "refused: number 7, @ of %, * by thread &, takes a lock that is held already; release it before this line.\n"
-refusalSentence refusal.LockTaken false = "refused: number 7, @ of % takes a lock that is held already; release it before this line.\n"
+refusalSentence refusal.LockTaken true =
+    "refused: number 7, @ of %, * by thread &, takes a lock that another thread holds; it has to be released before this line.\n"
+refusalSentence refusal.LockTaken false = "refused: number 7, @ of % takes a lock that another thread holds; it has to be released before this line.\n"
 refusalSentence refusal.LockNotHeld true =
     "refused: number 8, @ of %, * by thread &, lets go a lock that this thread does not hold; acquire it first or drop the line.\n"
 refusalSentence refusal.LockNotHeld false = "refused: number 8, @ of % lets go a lock that its thread does not hold; acquire it first or drop the line.\n"
@@ -43,11 +44,14 @@ refusalSentence refusal.LineBuffer k = "refused: number 17, the line buffer has 
 refusalSentence refusal.VerdictLine k =
     "refused: number 18, this is no verdict line: that has 32 digits 0-9 A-F, the first two 00 to 04 or 81 to FF, and one LF; hand it on as it was written.\n"
 refusalSentence refusal.TextBuffer k = "refused: number 19, the text has fewer than # bytes from the given place on; lend them.\n"
+refusalSentence refusal.TooOften true =
+    "refused: number 20, @ of %, * by thread &, takes a lock that this thread holds 15 times already; hold it at most 15 times.\n"
+refusalSentence refusal.TooOften false = "refused: number 20, @ of % takes a lock that its thread holds 15 times already; hold it at most 15 times.\n"
 
--- The line of a sentence in the text of them all: the sentences by their numbers, then those of 7 to 10 whose frame is not known.
+-- The line of a sentence in the text of them all: the sentences by their numbers, then those of 7 to 10 and of 20 whose frame is not known.
 abbrev pub sentenceLine : ℕ → Bool → ℕ
 sentenceLine n true = n - 1
-sentenceLine n false = cond (ltb n 7) (n - 1) (cond (ltb 10 n) (n - 1) (n + 12))
+sentenceLine n false = cond (ltb n 7) (n - 1) (cond (ltb n 11) (n + 13) (cond (ltb n 20) (n - 1) 24))
 
 -- "Each refusal is one sentence that says what to mend." (docs/TOOL.md)
 abbrev pub refusalText : Source → List ℕ → Refused → List ℕ

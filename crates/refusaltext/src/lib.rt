@@ -22,10 +22,13 @@ fn line_of(reason: Refusal, known: bool) -> u8
     if n < 7 {
         return n - 1;
     }
-    if 10 < n {
+    if n < 11 {
+        return n + 13;
+    }
+    if n < 20 {
         return n - 1;
     }
-    n + 12
+    24
 }
 
 // The sentence of a refusal.
@@ -43,7 +46,7 @@ fn say_refusal(out: &mut [u8], at: usize, reason: Refusal, f: Facts) -> usize
             refused: number 4, @ of % has an operation other than 01 to 06; mend its digits 1 and 2.\n\
             refused: number 5, @ of % has a thread above 1F; mend its digits 3 and 4.\n\
             refused: number 6, @ of % has an object out of range; locks go up to 003F, variables up to 03FF, and a begin or an end has 0000.\n\
-            refused: number 7, @ of %, * by thread &, takes a lock that is held already; release it before this line.\n\
+            refused: number 7, @ of %, * by thread &, takes a lock that another thread holds; it has to be released before this line.\n\
             refused: number 8, @ of %, * by thread &, lets go a lock that this thread does not hold; acquire it first or drop the line.\n\
             refused: number 9, @ of % is a begin inside 15 open blocks of thread &; nest at most 15.\n\
             refused: number 10, @ of % is an end where thread & has no open block; add its begin or drop the line.\n\
@@ -56,10 +59,12 @@ fn say_refusal(out: &mut [u8], at: usize, reason: Refusal, f: Facts) -> usize
             refused: number 17, the line buffer has fewer than # bytes; lend #.\n\
             refused: number 18, this is no verdict line: that has 32 digits 0-9 A-F, the first two 00 to 04 or 81 to FF, and one LF; hand it on as it was written.\n\
             refused: number 19, the text has fewer than # bytes from the given place on; lend them.\n\
-            refused: number 7, @ of % takes a lock that is held already; release it before this line.\n\
+            refused: number 20, @ of %, * by thread &, takes a lock that this thread holds 15 times already; hold it at most 15 times.\n\
+            refused: number 7, @ of % takes a lock that another thread holds; it has to be released before this line.\n\
             refused: number 8, @ of % lets go a lock that its thread does not hold; acquire it first or drop the line.\n\
             refused: number 9, @ of % is a begin inside 15 open blocks of its thread; nest at most 15.\n\
-            refused: number 10, @ of % is an end where its thread has no open block; add its begin or drop the line.\n",
+            refused: number 10, @ of % is an end where its thread has no open block; add its begin or drop the line.\n\
+            refused: number 20, @ of % takes a lock that its thread holds 15 times already; hold it at most 15 times.\n",
         n,
     );
     say(out, at, sentence, f)

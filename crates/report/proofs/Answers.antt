@@ -61,6 +61,8 @@ refusal-short refusal.SetTable k = refl
 refusal-short refusal.LineBuffer k = refl
 refusal-short refusal.VerdictLine k = refl
 refusal-short refusal.TextBuffer k = refl
+refusal-short refusal.TooOften true = refl
+refusal-short refusal.TooOften false = refl
 
 kind-short : (k : Kind) → Short (kindSentence k)
 unfolding bytes pieceWeight weight

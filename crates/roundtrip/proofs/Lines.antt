@@ -1,12 +1,12 @@
 -- Reading a written verdict line, and writing what was read. In this order: a begin or a commit, over any width; digits behind digits; a field of
 -- a written line; the written line read; a read line taken apart, and written; the line of a reply.
-use Prim.Native.Nat.{ℕ, _+_, _-_, _≤_, _<_}
+use Prim.Native.Nat.{ℕ, _+_, _-_, _%_, _≤_, _<_}
 use mathlib.Core.Path.{_≡_, refl, sym, ap, _∙_}
 use mathlib.Core.Bool.{Bool, true, false}
 use mathlib.Core.List.{List, [], _∷_, _++_, append-assoc}
 use native.Mathlib.Omega.{arith}
 use native.Mathlib.Nat.{one-le-pow}
-use borrow.Author.Tests.{eq-eqb, ne-eqb, eqb-true}
+use borrow.Author.Tests.{eq-eqb, ne-eqb, eqb-true, lt-ltb, ltb-false}
 use lib.Dec.{eqb, ltb}
 use lib.ListN.{length, getD, take, drop, length-append, length-drop, take-append-drop}
 use lib.Seq.{take-suc, take-all, take-add, take-at, drop-at, getD-at, length-take-le}
@@ -21,15 +21,9 @@ use Rattle.line.specs.declared.Fields.{Fields}
 use Rattle.line.specs.declared.LineMark.{LineMark}
 use Rattle.line.specs.declared.LineMark.the-variants as mark
 use Rattle.line.proofs.Laws.{length-fields-line}
-use Rattle.frame.specs.Refusal.{refusalNumber}
-use Rattle.frame.specs.declared.Refusal.{Refusal}
-use Rattle.frame.specs.declared.Refusal.the-variants as refusal
-use Rattle.reply.specs.Reply.{kindNumber}
-use Rattle.reply.specs.declared.Kind.{Kind}
-use Rattle.reply.specs.declared.Kind.the-variants as kind
-use Rattle.reply.specs.declared.Verdict.the-variants as verdict
 use Rattle.reply.specs.declared.Reply.{Reply}
-use Rattle.reply.specs.declared.Reply.the-variants as reply
+use Rattle.kept.specs.Kept.{keptBy}
+use Rattle.kept.specs.declared.Kept.the-variants as kept
 use Rattle.kept.proofs.Laws.{reply-told}
 use Rattle.fields.specs.Fields.{isKind, noLine, numberIn, lineFields, writtenLine}
 use Rattle.fields.specs.declared.FieldsReply.{FieldsReply}
@@ -247,38 +241,16 @@ told-back : (n : ℕ) (m : LineMark) → MarkTold n m → readBack n m ≡ m
 told-back n (mark.At i) h = rw (ne-eqb i (absentIn n) (λ e. omega arith))
 told-back n mark.Absent h = refl
 
--- every reply's line has a kind that reads
-refusal-kind : (r : Refusal) → isKind (128 + refusalNumber r) ≡ true
-refusal-kind refusal.Line = refl
-refusal-kind refusal.TooLong = refl
-refusal-kind refusal.WordBuffer = refl
-refusal-kind refusal.Operation = refl
-refusal-kind refusal.Thread = refl
-refusal-kind refusal.Object = refl
-refusal-kind refusal.LockTaken = refl
-refusal-kind refusal.LockNotHeld = refl
-refusal-kind refusal.TooDeep = refl
-refusal-kind refusal.NoOpenBlock = refl
-refusal-kind refusal.GuardRange = refl
-refusal-kind refusal.GuardRepeated = refl
-refusal-kind refusal.Irreducible = refl
-refusal-kind refusal.OpenBlock = refl
-refusal-kind refusal.OutputBuffer = refl
-refusal-kind refusal.SetTable = refl
-refusal-kind refusal.LineBuffer = refl
-refusal-kind refusal.VerdictLine = refl
-refusal-kind refusal.TextBuffer = refl
-
-violation-kind : (k : Kind) → isKind (kindNumber k) ≡ true
-violation-kind kind.GuardNotHeld = refl
-violation-kind kind.UnprotectedAfterCommit = refl
-violation-kind kind.AcquireAfterCommit = refl
-violation-kind kind.SetEmptied = refl
-
-reply-kind : (r : Reply) (n : ℕ) → isKind (replyFields r n .kind) ≡ true
-reply-kind (reply.Refused x) n = refusal-kind (x .reason)
-reply-kind (reply.Judged verdict.Reducible) n = refl
-reply-kind (reply.Judged (verdict.Violated v)) n = violation-kind (v .kind)
+-- a kind that tells a reply reads
+told-kind : (k : ℕ) (f : Fields) (r : Reply) → keptBy k f ≡ kept.Reply r → isKind k ≡ true
+unfolding keptBy
+told-kind k f r e = go (ltb k 5) refl (ltb k 129) refl
+  where
+    go : (a : Bool) → ltb k 5 ≡ a → (b : Bool) → ltb k 129 ≡ b → isKind k ≡ true
+    go true p b q = rw p
+    go false p true q =
+        let z : kept.Other (k % 128) ≡ kept.Reply r = rw (ne-eqb k 0 (λ (h : k ≡ 0). omega (arith, h, ltb-false k 5 p)), p, q) at e in never (cc)
+    go false p false q = rw p (lt-ltb 128 k (ltb-false k 129 q))
 
 -- The line of a reply tells it.
 pub kept-lines-tell : KeptLinesTell
@@ -292,4 +264,4 @@ kept-lines-tell r n x =
       commit = told-held placeWidth (f .commit) (x .commit);
       locks = x .locks;
     } in
-    (line-back f h (reply-kind r n) ∙ rw (told-back placeWidth (f .begin) (x .begin), told-back placeWidth (f .commit) (x .commit)), reply-told r n)
+    (line-back f h (told-kind (f .kind) f r (reply-told r n)) ∙ rw (told-back placeWidth (f .begin) (x .begin), told-back placeWidth (f .commit) (x .commit)), reply-told r n)

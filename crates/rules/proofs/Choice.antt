@@ -33,9 +33,11 @@ use Rattle.reply.specs.Reply.{refused, reducible, violated}
 use Rattle.reply.specs.declared.Violation.{Violation}
 use Rattle.reply.specs.declared.Verdict.{Verdict}
 use Rattle.reply.specs.declared.Verdict.the-variants as verdict
-use Rattle.soundness.specs.Soundness.{State, stepFrame, start}
+use Rattle.soundness.specs.Soundness.{State, stepFrame, levelOf, start}
 use Rattle.soundness.specs.declared.Outcome.{Outcome}
 use Rattle.soundness.specs.declared.Outcome.the-variants as outcome
+use Rattle.soundness.specs.declared.Level.{Level}
+use Rattle.soundness.specs.declared.Level.the-variants as level
 use Rattle.instrumented.specs.Rules.{Phase, outside, before, after, Judging, judgingOf, Judged, judged, phaseAt, contains, withCommit, committed, acquireIn, unprotectedIn, judgeOperation}
 use Rattle.operation.specs.Operation.{guardedAccess, accessOf, operationOf}
 use Rattle.instrumented.specs.Held.{heldSet}
@@ -98,13 +100,15 @@ module _ (guards locks : List ℕ) (c : Choice locks) where
   variable-chosen v =
       ap (λ (n : ℕ). guardedAccess (guardOf n) v) (choose-at guards locks (v .0)) ∙ access-chosen locks v (getD guards (v .0) 0) (c .small (v .0))
 
-  pub operation-chosen : (a : Action) → operationOf (choose guards locks) a ≡ chosen locks (operationOf guards a)
-  operation-chosen (action.Acquire l) = refl
-  operation-chosen (action.Release l) = refl
-  operation-chosen (action.Read v) = variable-chosen v
-  operation-chosen (action.Write v) = variable-chosen v
-  operation-chosen action.Begin = refl
-  operation-chosen action.End = refl
+  pub operation-chosen : (x : Level) (a : Action) → operationOf (choose guards locks) x a ≡ chosen locks (operationOf guards x a)
+  operation-chosen level.Outer (action.Acquire l) = refl
+  operation-chosen level.Inner (action.Acquire l) = refl
+  operation-chosen level.Outer (action.Release l) = refl
+  operation-chosen level.Inner (action.Release l) = refl
+  operation-chosen x (action.Read v) = variable-chosen v
+  operation-chosen x (action.Write v) = variable-chosen v
+  operation-chosen x action.Begin = refl
+  operation-chosen x action.End = refl
 
 -- An operation is one that every choice leaves as it is, or an access under an inferred guard.
 abbrev Plain : Operation → Type 0
@@ -120,13 +124,15 @@ seen-access (guard.Locked m) v h = plain (λ locks. refl)
 seen-access guard.Unprotected v h = plain (λ locks. refl)
 seen-access guard.Inferred v h = inferred v h
 
-seen : (guards : List ℕ) (a : Action) → ObjectInRange a → Seen (operationOf guards a)
-seen guards (action.Acquire l) h = plain (λ locks. refl)
-seen guards (action.Release l) h = plain (λ locks. refl)
-seen guards (action.Read v) h = seen-access (guardOf (getD guards (v .0) 0)) v h
-seen guards (action.Write v) h = seen-access (guardOf (getD guards (v .0) 0)) v h
-seen guards action.Begin h = plain (λ locks. refl)
-seen guards action.End h = plain (λ locks. refl)
+seen : (guards : List ℕ) (x : Level) (a : Action) → ObjectInRange a → Seen (operationOf guards x a)
+seen guards level.Outer (action.Acquire l) h = plain (λ locks. refl)
+seen guards level.Inner (action.Acquire l) h = plain (λ locks. refl)
+seen guards level.Outer (action.Release l) h = plain (λ locks. refl)
+seen guards level.Inner (action.Release l) h = plain (λ locks. refl)
+seen guards x (action.Read v) h = seen-access (guardOf (getD guards (v .0) 0)) v h
+seen guards x (action.Write v) h = seen-access (guardOf (getD guards (v .0) 0)) v h
+seen guards x action.Begin h = plain (λ locks. refl)
+seen guards x action.End h = plain (λ locks. refl)
 
 -- the same begins and commits with other sets
 abbrev withSets : List ℕ → Judging → Judging
@@ -311,7 +317,8 @@ same-reply e = ap (λ (x : Ended). x .reply) e
 pub record Goes (guards : List ℕ) (i : ℕ) (s : State) (j : Judging) (w : ℕ) : Type 0 where
   pub frame : Frame
   pub is : decodeWord w ≡ decoded.Frame frame
-  pub sound : stepFrame frame s .outcome ≡ outcome.Next
+  pub level : Level
+  pub sound : stepFrame frame s .outcome ≡ outcome.Next level
   pub right : judgeFrame guards i frame s j .verdict ≡ verdict.Reducible
 
 module _ (guards : List ℕ) (i : ℕ) (s : State) (j : Judging) (w : ℕ) (ws : List ℕ) where
@@ -319,20 +326,20 @@ module _ (guards : List ℕ) (i : ℕ) (s : State) (j : Judging) (w : ℕ) (ws :
   pub goes-on : (g : Goes guards i s j w)
       → judgeFrom guards i s j (w ∷ ws) ≡ judgeFrom guards (i + 1) (stepFrame (g .frame) s .state) (judgeFrame guards i (g .frame) s j .judging) ws
   unfolding judgeFrom
-  goes-on g = rw (g .is, g .sound, g .right)
+  goes-on g = rw (g .is, g .right, g .sound)
 
   -- a reducible pass goes on after its first frame
   pub goes : judgeFrom guards i s j (w ∷ ws) .reply ≡ reducible → Goes guards i s j w
   unfolding judgeFrom
   goes r = decode-case (decodeWord w) refl
     where
-      judge-case : (f : Frame) → decodeWord w ≡ decoded.Frame f → stepFrame f s .outcome ≡ outcome.Next
+      judge-case : (f : Frame) → decodeWord w ≡ decoded.Frame f → (x : Level) → stepFrame f s .outcome ≡ outcome.Next x
           → (v : Verdict) → judgeFrame guards i f s j .verdict ≡ v → Goes guards i s j w
-      judge-case f e g verdict.Reducible a = record { frame = f; is = e; sound = g; right = a }
-      judge-case f e g (verdict.Violated v) a = let z : violated v ≡ reducible = rw (e, g, a) at r in never (cc)
+      judge-case f e x g verdict.Reducible a = record { frame = f; is = e; level = x; sound = g; right = a }
+      judge-case f e x g (verdict.Violated v) a = let z : violated v ≡ reducible = rw (e, a, g) at r in never (cc)
 
       step-case : (f : Frame) → decodeWord w ≡ decoded.Frame f → (o : Outcome) → stepFrame f s .outcome ≡ o → Goes guards i s j w
-      step-case f e outcome.Next g = judge-case f e g (judgeFrame guards i f s j .verdict) refl
+      step-case f e (outcome.Next x) g = judge-case f e x g (judgeFrame guards i f s j .verdict) refl
       step-case f e (outcome.Bad b) g = let z : refused b i ≡ reducible = rw (e, g) at r in never (cc)
 
       decode-case : (d : Decoded) → decodeWord w ≡ d → Goes guards i s j w
@@ -347,20 +354,23 @@ ends-full guards i s j [] e f = f
 ends-full guards i s j (w ∷ ws) e f =
     let g = goes guards i s j w ws e in
     let on = goes-on guards i s j w ws g in
-    let full = stays-full i (g .frame .thread) _ _ j (seen guards (g .frame .action) (decoded-in-range w (g .frame) (g .is) .object)) (g .right) f in
+    let full = stays-full i (g .frame .thread) _ _ j (seen guards _ (g .frame .action) (decoded-in-range w (g .frame) (g .is) .object)) (g .right) f in
     rw on (ends-full guards (i + 1) _ _ ws (sym (same-reply on) ∙ e) full)
 
 module _ (guards locks : List ℕ) (c : Choice locks) (sets : List ℕ) where
   module _ (i : ℕ) (s : State) (j : Judging) (w : ℕ) (f : Frame) (e : decodeWord w ≡ decoded.Frame f) where
     -- the frame's operation, and what it is under the chosen locks
-    frame-seen : Seen (operationOf guards (f .action))
-    frame-seen = seen guards (f .action) (decoded-in-range w f e .object)
+    abbrev here : Operation
+    here = operationOf guards (levelOf (stepFrame f s .outcome)) (f .action)
+
+    frame-seen : Seen here
+    frame-seen = seen guards (levelOf (stepFrame f s .outcome)) (f .action) (decoded-in-range w f e .object)
 
     frame-chosen : judgeFrame (choose guards locks) i f s (withSets sets j)
-        ≡ judgeOperation i (f .thread) (getD (s .depths) (f .thread .0) 0) (heldSet (f .thread .0) (s .owners)) (chosen locks (operationOf guards (f .action))) (withSets sets j)
+        ≡ judgeOperation i (f .thread) (getD (s .depths) (f .thread .0) 0) (heldSet (f .thread .0) (s .owners)) (chosen locks here) (withSets sets j)
     frame-chosen =
         ap (λ (o : Operation). judgeOperation i (f .thread) (getD (s .depths) (f .thread .0) 0) (heldSet (f .thread .0) (s .owners)) o (withSets sets j))
-        (operation-chosen guards locks c (f .action))
+        (operation-chosen guards locks c (levelOf (stepFrame f s .outcome)) (f .action))
 
     -- a frame that does not go wrong on one side does not on the other
     frame-infers : judgeFrame guards i f s j .verdict ≡ verdict.Reducible → Has locks (judgeFrame guards i f s j .judging .sets)
@@ -372,15 +382,15 @@ module _ (guards locks : List ℕ) (c : Choice locks) (sets : List ℕ) where
     frame-allows r h = rw frame-chosen (allows i (f .thread) _ _ j locks sets frame-seen (rw frame-chosen at r) h)
 
     -- how the two passes go on
-    module _ (ws : List ℕ) (q : stepFrame f s .outcome ≡ outcome.Next)
+    module _ (ws : List ℕ) (x : Level) (q : stepFrame f s .outcome ≡ outcome.Next x)
         (m : Matched locks sets j (judgeFrame guards i f s j) (judgeFrame (choose guards locks) i f s (withSets sets j))) where
       inferred-on : judgeFrom guards i s j (w ∷ ws) ≡ judgeFrom guards (i + 1) (stepFrame f s .state) (judgeFrame guards i f s j .judging) ws
-      inferred-on = goes-on guards i s j w ws record { frame = f; is = e; sound = q; right = m .right }
+      inferred-on = goes-on guards i s j w ws record { frame = f; is = e; level = x; sound = q; right = m .right }
 
       chosen-on : judgeFrom (choose guards locks) i s (withSets sets j) (w ∷ ws)
           ≡ judgeFrom (choose guards locks) (i + 1) (stepFrame f s .state) (withSets sets (judgeFrame guards i f s j .judging)) ws
       chosen-on =
-          goes-on (choose guards locks) i s (withSets sets j) w ws record { frame = f; is = e; sound = q; right = ap (λ (x : Judged). x .verdict) (m .same) ∙ m .right }
+          goes-on (choose guards locks) i s (withSets sets j) w ws record { frame = f; is = e; level = x; sound = q; right = ap (λ (x : Judged). x .verdict) (m .same) ∙ m .right }
           ∙ ap (λ (x : Judged). judgeFrom (choose guards locks) (i + 1) (stepFrame f s .state) (x .judging) ws) (m .same)
 
   -- a pass that leaves each variable's chosen lock in its set is reducible with the chosen locks
@@ -394,7 +404,7 @@ module _ (guards locks : List ℕ) (c : Choice locks) (sets : List ℕ) where
       let ih = infers-pass (i + 1) (stepFrame (g .frame) s .state) (judgeFrame guards i (g .frame) s j .judging) ws
       (sym (same-reply on) ∙ r) (subst (λ (x : Ended). Has locks (x .judging .sets)) on h) in
       let m = frame-infers i s j w (g .frame) (g .is) (g .right) (ih .0) in
-      (m .had, same-reply (chosen-on i s j w (g .frame) (g .is) ws (g .sound) m) ∙ ih .1)
+      (m .had, same-reply (chosen-on i s j w (g .frame) (g .is) ws (g .level) (g .sound) m) ∙ ih .1)
 
   -- a pass from sets that have the chosen locks is reducible where it is with these locks
   allows-pass : (i : ℕ) (s : State) (j : Judging) (ws : List ℕ) → judgeFrom (choose guards locks) i s (withSets sets j) ws .reply ≡ reducible → Has locks (j .sets)
@@ -404,8 +414,8 @@ module _ (guards locks : List ℕ) (c : Choice locks) (sets : List ℕ) where
   allows-pass i s j (w ∷ ws) r h =
       let g = goes (choose guards locks) i s (withSets sets j) w ws r in
       let m = frame-allows i s j w (g .frame) (g .is) (g .right) h in
-      let on = chosen-on i s j w (g .frame) (g .is) ws (g .sound) m in
-      same-reply (inferred-on i s j w (g .frame) (g .is) ws (g .sound) m)
+      let on = chosen-on i s j w (g .frame) (g .is) ws (g .level) (g .sound) m in
+      same-reply (inferred-on i s j w (g .frame) (g .is) ws (g .level) (g .sound) m)
       ∙ allows-pass (i + 1) (stepFrame (g .frame) s .state) (judgeFrame guards i (g .frame) s j .judging) ws (sym (same-reply on) ∙ r) (m .kept)
 
 -- a lock of each set

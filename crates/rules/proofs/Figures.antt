@@ -8,8 +8,8 @@ use mathlib.Core.Logic.{_↔_}
 use mathlib.Core.List.{List, [], _∷_}
 use native.Mathlib.Omega.{arith}
 use native.Mathlib.Nat.{zero-add}
-use borrow.Author.Tests.{eq-eqb, ne-eqb, le-ltb}
-use lib.Dec.{eqb}
+use borrow.Author.Tests.{eq-eqb, ne-eqb, le-ltb, le-leb, lt-leb}
+use lib.Dec.{eqb, leb}
 use lib.ListN.{getD, length-replicate, getD-replicate}
 use Rattle.guards.specs.declared.Judgement.the-variants.{Declared}
 use Rattle.verdict.specs.Verdict.{verdictUnder, withTable, inferredReply}
@@ -29,7 +29,7 @@ use Rattle.guards.proofs.Named.{listed-guard}
 use Rattle.guards.specs.declared.Guard.{Guard}
 use Rattle.guards.specs.declared.Guard.the-variants.{Locked, Unprotected, Inferred}
 use Rattle.guards.specs.declared.GuardsReply.the-variants as guards-reply
-use Rattle.soundness.specs.Soundness.{State, checkFrom, checkReply, start}
+use Rattle.soundness.specs.Soundness.{State, ownerOf, countOf, checkFrom, checkReply, start}
 use Rattle.soundness.specs.declared.CheckReply.the-variants as check
 use Rattle.soundness.proofs.Laws.{check-short, sound-fits, First, sound-first}
 use Rattle.reply.specs.Reply.{reducible, violated}
@@ -39,11 +39,11 @@ use Rattle.reply.specs.declared.Reply.{Reply}
 use Rattle.reply.specs.declared.Reply.the-variants as reply
 use Rattle.reply.specs.declared.Violation.{Violation}
 use Rattle.instrumented.specs.Rules.{Judging}
-use Rattle.rules.specs.Figures.{Acts, Stage, Outside, PreCommit, PostCommit, Store, putStage, putLocks, owner, depth, shared, Accesses, reads, writes, Steps, ins-access-protected, ins-race-commit, ins-race-outside, ins-acquire, ins-release-commit, ins-release-outside, ins-enter, ins-nested-enter, ins-exit, ins-nested-exit, ins2-access, Wrong, wrong-access-protected, wrong-race-violate, wrong-acquire, wrong2-race, AllStep, end, step, WrongAt, here, later, startStore, guarding, OfTheRules, VerdictIsOfTheRules, DeclaredIsOfTheRules, InferredIsOfTheRules}
+use Rattle.rules.specs.Figures.{Acts, Stage, Outside, PreCommit, PostCommit, Store, putStage, putLocks, depth, shared, Accesses, reads, writes, Steps, ins-access-protected, ins-race-commit, ins-race-outside, ins-acquire, ins-release-commit, ins-release-outside, ins-reentrant-acquire, ins-reentrant-release, ins-enter, ins-nested-enter, ins-exit, ins-nested-exit, ins2-access, Wrong, wrong-access-protected, wrong-race-violate, wrong-acquire, wrong2-race, AllStep, end, step, WrongAt, here, later, startStore, guarding, OfTheRules, VerdictIsOfTheRules, DeclaredIsOfTheRules, InferredIsOfTheRules}
 use Rattle.laws.proofs.Logic.{never}
 use Rattle.laws.proofs.Lists.{getD-filled}
 use Rattle.pass.proofs.Judgement.{judgement-pass}
-use Rattle.rules.proofs.Acts.{acted, acts-to, passes-acts}
+use Rattle.rules.proofs.Acts.{acted, acts-to, frame-acts}
 use Rattle.rules.proofs.Store.{storeOf, Sized, Told, goes, wrong, frame-told}
 
 -- What the rules make of an operation.
@@ -70,14 +70,14 @@ module _ (P : ℕ → Guard) (s : State) (φ : Store) (t : ℕ) where
 
   -- of an access, by the guard
   abbrev accessRule : Variable → Guard → Result
-  accessRule x (Locked m) = cond (eqb (owner P s φ t m) (t + 1)) (to φ) (amiss GuardNotHeld)
+  accessRule x (Locked m) = cond (eqb (ownerOf m s) (t + 1)) (to φ) (amiss GuardNotHeld)
   accessRule x Unprotected = raceRule (φ .stage t)
   accessRule x Inferred = cond (eqb (shared P s φ t x) 0) (amiss SetEmptied) (to (putLocks φ (x .0) (shared P s φ t x)))
 
   -- of any action
   abbrev rule : Action → Result
-  rule (action.Acquire m) = acquireRule (φ .stage t)
-  rule (action.Release m) = releaseRule (φ .stage t)
+  rule (action.Acquire m) = cond (eqb (ownerOf m s) (t + 1)) (to φ) (acquireRule (φ .stage t))
+  rule (action.Release m) = cond (leb (countOf m s) 1) (releaseRule (φ .stage t)) (to φ)
   rule (action.Read x) = accessRule x (P (x .0))
   rule (action.Write x) = accessRule x (P (x .0))
   rule action.Begin = cond (eqb (depth P s φ t) 0) (to (putStage φ t PreCommit)) (to φ)
@@ -104,9 +104,11 @@ module _ (P : ℕ → Guard) (s : State) (φ : Store) (t : ℕ) where
   steps-rule (ins-access-protected c g o) = access-rule c ∙ rw (g, eq-eqb _ _ o)
   steps-rule (ins-race-commit c g e) = access-rule c ∙ rw (g, e)
   steps-rule (ins-race-outside c g e) = access-rule c ∙ rw (g, e)
-  steps-rule (ins-acquire h) = not-after (φ .stage t) h
-  steps-rule (ins-release-commit h) = not-outside (φ .stage t) h
-  steps-rule (ins-release-outside e) = rw e
+  steps-rule (ins-acquire n h) = rw (ne-eqb _ _ n) (not-after (φ .stage t) h)
+  steps-rule (ins-release-commit l h) = rw (le-leb _ _ l) (not-outside (φ .stage t) h)
+  steps-rule (ins-release-outside l e) = rw (le-leb _ _ l, e)
+  steps-rule (ins-reentrant-acquire e) = rw (eq-eqb _ _ e)
+  steps-rule (ins-reentrant-release e h) = rw (lt-leb _ _ h)
   steps-rule (ins-enter e) = rw (eq-eqb _ 0 e)
   steps-rule (ins-nested-enter h) = rw (ne-eqb (depth P s φ t) 0 (omega arith))
   steps-rule (ins-exit e) = rw (eq-eqb _ 1 e)
@@ -116,7 +118,7 @@ module _ (P : ℕ → Guard) (s : State) (φ : Store) (t : ℕ) where
   wrong-rule : {a : Action} {k : Kind} → Wrong P s φ t a k → rule a ≡ amiss k
   wrong-rule (wrong-access-protected c g o) = access-rule c ∙ rw (g, ne-eqb _ _ o)
   wrong-rule (wrong-race-violate c g e) = access-rule c ∙ rw (g, e)
-  wrong-rule (wrong-acquire e) = rw e
+  wrong-rule (wrong-acquire n e) = rw (ne-eqb _ _ n, e)
   wrong-rule (wrong2-race c g e) = access-rule c ∙ rw (g, eq-eqb _ 0 e)
 
 -- What the rules make of a recording whose frames all decode: all frames step, or the first that goes wrong.
@@ -170,10 +172,10 @@ unfolding judgeFrom
 ends guards i s j [] c z = all refl end
 ends guards i s j (w ∷ ws) c z =
     let q = sound-first i s w ws c in
-    told-case q (λ k. ends guards (i + 1) (q .next) k ws (q .rest)) (frame-told guards s (q .next) j i (q .frame) z (decoded-in-range w (q .frame) (q .is)) (acts q))
+    told-case q (λ k. ends guards (i + 1) (q .next) k ws (q .rest)) (frame-told guards s (q .next) j i (q .frame) (q .level) z (decoded-in-range w (q .frame) (q .is)) (q .passes))
   where
     acts : (q : First i s w ws) → Acts s (q .frame .thread .0) (q .frame .action) (q .next)
-    acts q = passes-acts (q .frame) s (q .next) (q .passes) .0
+    acts q = frame-acts (q .passes)
 
     rest-case : (q : First i s w ws) (k : Judging) → judgeFrom guards i s j (w ∷ ws) ≡ judgeFrom guards (i + 1) (q .next) k ws
         → Steps (guarding guards) s (storeOf (s .depths) j) (q .frame .thread .0) (q .frame .action) (storeOf (q .next .depths) k)
@@ -183,8 +185,8 @@ ends guards i s j (w ∷ ws) c z =
 
     told-case : (q : First i s w ws) → ((k : Judging) → Sized (q .next .depths) k → Ends guards (i + 1) (q .next) k ws)
         → Told (guarding guards) s (q .next .depths) j i (q .frame .thread .0) (q .frame .action) (judgeFrame guards i (q .frame) s j) → Ends guards i s j (w ∷ ws)
-    told-case q ih (goes {k = k} a r y) = rest-case q k (rw (q .is, q .passes, a)) r (ih k y)
-    told-case q ih (wrong {v = v} a p r) = some 0 v (rw (q .is, q .passes, a)) (omega arith) (here (q .is) (acts q) r)
+    told-case q ih (goes {k = k} a r y) = rest-case q k (rw (q .is, a, q .passes)) r (ih k y)
+    told-case q ih (wrong {v = v} a p r) = some 0 v (rw (q .is, a, q .passes)) (omega arith) (here (q .is) (acts q) r)
 
 -- the lists, the sizes and the store at the start
 start-sized : Sized (start .depths) (startJudging fullSets)
@@ -245,9 +247,11 @@ module _ (P Q : ℕ → Guard) (same : (x : ℕ) → x < variableCount → P x �
     same-steps h (ins-access-protected c g o) = ins-access-protected c (same-guard h c g) o
     same-steps h (ins-race-commit c g e) = ins-race-commit c (same-guard h c g) e
     same-steps h (ins-race-outside c g e) = ins-race-outside c (same-guard h c g) e
-    same-steps h (ins-acquire n) = ins-acquire n
-    same-steps h (ins-release-commit n) = ins-release-commit n
-    same-steps h (ins-release-outside e) = ins-release-outside e
+    same-steps h (ins-acquire n e) = ins-acquire n e
+    same-steps h (ins-release-commit l n) = ins-release-commit l n
+    same-steps h (ins-release-outside l e) = ins-release-outside l e
+    same-steps h (ins-reentrant-acquire e) = ins-reentrant-acquire e
+    same-steps h (ins-reentrant-release e l) = ins-reentrant-release e l
     same-steps h (ins-enter e) = ins-enter e
     same-steps h (ins-nested-enter l) = ins-nested-enter l
     same-steps h (ins-exit e) = ins-exit e
@@ -257,7 +261,7 @@ module _ (P Q : ℕ → Guard) (same : (x : ℕ) → x < variableCount → P x �
     same-wrong : {a : Action} {k : Kind} → ObjectInRange a → Wrong P s φ t a k → Wrong Q s φ t a k
     same-wrong h (wrong-access-protected c g o) = wrong-access-protected c (same-guard h c g) o
     same-wrong h (wrong-race-violate c g e) = wrong-race-violate c (same-guard h c g) e
-    same-wrong h (wrong-acquire e) = wrong-acquire e
+    same-wrong h (wrong-acquire n e) = wrong-acquire n e
     same-wrong h (wrong2-race c g e) = wrong2-race c (same-guard h c g) e
 
   -- a recording steps, or goes wrong, with both

@@ -1,6 +1,6 @@
 -- The paper's store in the state of the pass, and one frame: what the pass makes of it is what the rules say of it.
 -- In this order: the locks held, the store of a state, how it changes, one frame.
-use Prim.Native.Nat.{ℕ, zero, suc, _+_, _-_, _*_, _/_, _%_, _<_}
+use Prim.Native.Nat.{ℕ, zero, suc, _+_, _-_, _*_, _/_, _%_, _≤_, _<_}
 use mathlib.Core.Path.{_≡_, refl, sym, ap, _∙_, fun-ext}
 use mathlib.Core.Bool.{Bool, true, false, cond}
 use mathlib.Core.List.{List, [], _∷_}
@@ -8,16 +8,17 @@ use native.Mathlib.Omega.{arith}
 use native.Mathlib.Decide.{ℕ-discrete}
 use borrow.Author.Tests.{eqb-true, eqb-false, eq-eqb, ne-eqb}
 use lib.Bits.{bitAnd}
-use lib.Dec.{eqb}
+use lib.Dec.{eqb, leb}
 use lib.ListN.{length, getD, set, length-set}
 use lib.Seq.{set-getD}
 use Rattle.turn.specs.Turn.{judgeFrame}
-use Rattle.frame.specs.Limits.{threadCount, variableCount}
+use Rattle.frame.specs.Limits.{threadCount, variableCount, deepest}
 use Rattle.frame.specs.Frame.{ObjectInRange, InRange}
 use Rattle.frame.specs.declared.Thread.{Thread}
 use Rattle.frame.specs.declared.Lock.{Lock}
 use Rattle.frame.specs.declared.Variable.{Variable}
 use Rattle.frame.specs.declared.Frame.{Frame}
+use Rattle.frame.specs.declared.Refusal.the-variants as refusal
 use Rattle.frame.specs.declared.Action.{Action}
 use Rattle.frame.specs.declared.Action.the-variants as action
 use Rattle.guards.specs.Guards.{guardOf}
@@ -25,7 +26,10 @@ use Rattle.guards.specs.declared.Guard.{Guard}
 use Rattle.guards.specs.declared.Guard.the-variants as guard
 use Rattle.reply.specs.declared.Violation.{Violation}
 use Rattle.reply.specs.declared.Verdict.the-variants as verdict
-use Rattle.soundness.specs.Soundness.{State}
+use Rattle.soundness.specs.Soundness.{State, ownerOf, countOf, nested, Stepped, stepped, stepAction, stepFrame}
+use Rattle.soundness.specs.declared.Outcome.the-variants as outcome
+use Rattle.soundness.specs.declared.Level.{Level}
+use Rattle.soundness.proofs.Laws.{spared, Acquired, took, took-again, acquired, Released, freed, let-go, released}
 use Rattle.instrumented.specs.Rules.{Judging, judgingOf, Judged, judged, phaseAt, contains, committed, withCommit, acquireIn, unprotectedIn, judgeOperation}
 use Rattle.operation.specs.Operation.{guardedAccess, operationOf}
 use Rattle.instrumented.specs.Held.{heldSet}
@@ -34,8 +38,7 @@ use Rattle.laws.proofs.Logic.{never}
 use Rattle.laws.proofs.Lists.{getD-set}
 use Rattle.judge.proofs.Held.{mine, mine-other}
 use Rattle.rules.proofs.Bits.{bit, bit-zero, bit-suc, none-in}
-use Rattle.rules.proofs.Acts.{acted, acts-to}
-use Rattle.rules.specs.Figures.{Acts, act-other-end, Stage, Outside, PreCommit, PostCommit, Store, putStage, putLocks, Accesses, reads, writes, Steps, ins-access-protected, ins-race-commit, ins-race-outside, ins-acquire, ins-release-commit, ins-release-outside, ins-enter, ins-nested-enter, ins-exit, ins-nested-exit, ins2-access, Wrong, wrong-access-protected, wrong-race-violate, wrong-acquire, wrong2-race, guarding}
+use Rattle.rules.specs.Figures.{Stage, Outside, PreCommit, PostCommit, Store, putStage, putLocks, Accesses, reads, writes, Steps, ins-access-protected, ins-race-commit, ins-race-outside, ins-acquire, ins-release-commit, ins-release-outside, ins-reentrant-acquire, ins-reentrant-release, ins-enter, ins-nested-enter, ins-exit, ins-nested-exit, ins2-access, Wrong, wrong-access-protected, wrong-race-violate, wrong-acquire, wrong2-race, guarding}
 
 -- the lowest bit of a held set, and the others
 held-low : (b : Bool) (h : ℕ) → (cond b 1 0 + 2 * h) % 2 ≡ cond b 1 0
@@ -115,10 +118,6 @@ module _ (depths : List ℕ) (j : Judging) (z : Sized depths j) where
         ap (λ (l : List ℕ). storeOf l (judgingOf (j .begins) (set (j .commits) t c) (j .sets))) (sym (set-getD depths t 0))
         ∙ moved (j .begins) (getD depths t 0) c
 
--- an end that has a step ends a block
-open-before : {s n : State} {t : ℕ} → Acts s t action.End n → getD (s .depths) t 0 ≡ 0 → ⊥
-open-before (act-other-end h) e = omega arith
-
 -- What the pass makes of a frame, x: it goes on in the state whose store the rules give, or it names the kind of the rule that goes wrong.
 pub data Told (P : ℕ → Guard) (s : State) (depths : List ℕ) (j : Judging) (i t : ℕ) (a : Action) (x : Judged) : Type 0 where
   goes : {k : Judging} → x ≡ judged verdict.Reducible k → Steps P s (storeOf (s .depths) j) t a (storeOf depths k) → Sized depths k → Told P s depths j i t a x
@@ -172,17 +171,23 @@ module _ (guards : List ℕ) (s : State) (j : Judging) (z : Sized (s .depths) j)
       ∙ stays (storeOf (s .depths) j) (t .0) _ (rw e)
 
   -- an acquire, by the tests of the depth and of the commit
-  acquire-told : (l : Lock) (p : Bool) → eqb (depthOf s t) 0 ≡ p → (q : Bool) → eqb (commitOf j t) 0 ≡ q
+  acquire-told : (l : Lock) → (ownerOf l s ≡ t .0 + 1 → ⊥) → (p : Bool) → eqb (depthOf s t) 0 ≡ p → (q : Bool) → eqb (commitOf j t) 0 ≡ q
       → Told (guarding guards) s (s .depths) j i (t .0) (action.Acquire l) (acquireIn (phaseAt (depthOf s t) t j) i t l j)
-  acquire-told l true e q f = rw e (goes refl (ins-acquire (λ r. let y : Outside ≡ PostCommit = rw e at r in never (cc))) z)
-  acquire-told l false e true f = rw (e, f) (goes refl (ins-acquire (λ r. let y : PreCommit ≡ PostCommit = rw (e, f) at r in never (cc))) z)
-  acquire-told l false e false f = rw (e, f) (wrong refl refl (wrong-acquire (rw (e, f))))
+  acquire-told l h true e q f = rw e (goes refl (ins-acquire h (λ r. let y : Outside ≡ PostCommit = rw e at r in never (cc))) z)
+  acquire-told l h false e true f = rw (e, f) (goes refl (ins-acquire h (λ r. let y : PreCommit ≡ PostCommit = rw (e, f) at r in never (cc))) z)
+  acquire-told l h false e false f = rw (e, f) (wrong refl refl (wrong-acquire h (rw (e, f))))
 
   -- a release, by the test of the depth
-  release-told : (l : Lock) (p : Bool) → eqb (depthOf s t) 0 ≡ p
+  release-told : (l : Lock) → countOf l s ≤ 1 → (p : Bool) → eqb (depthOf s t) 0 ≡ p
       → Told (guarding guards) s (s .depths) j i (t .0) (action.Release l) (judged verdict.Reducible (withCommit t (committed (depthOf s t) (commitOf j t) i) j))
-  release-told l true e = goes refl (rw (committed-outside e) (ins-release-outside (rw e))) (committed-sized _)
-  release-told l false e = goes refl (rw (committed-inside e) (ins-release-commit (stage-in (depthOf s t) (commitOf j t) e))) (committed-sized _)
+  release-told l h true e = goes refl (rw (committed-outside e) (ins-release-outside h (rw e))) (committed-sized _)
+  release-told l h false e = goes refl (rw (committed-inside e) (ins-release-commit h (stage-in (depthOf s t) (commitOf j t) e))) (committed-sized _)
+
+  -- an inner acquire or release
+  inner-told : {a : Action} (l : Lock) → ownerOf l s ≡ t .0 + 1 → Steps (guarding guards) s (storeOf (s .depths) j) (t .0) a (storeOf (s .depths) j)
+      → Told (guarding guards) s (s .depths) j i (t .0) a (judgeOperation i t (depthOf s t) (heldSet (t .0) (s .owners)) (Protected l) j)
+  unfolding judgeOperation
+  inner-told l own r = let b = held-is (t .0) (s .owners) l ∙ eq-eqb (ownerOf l s) (t .0 + 1) own in rw b (goes refl r z)
 
   module _ {a : Action} (x : Variable) (acc : Accesses a x) where
     -- an access under a lock, by whether the thread holds it
@@ -233,7 +238,7 @@ module _ (guards : List ℕ) (s : State) (j : Judging) (z : Sized (s .depths) j)
 
   -- a begin, outermost or nested
   begin-told : (h : ℕ) (b : Bool) → eqb (depthOf s t) 0 ≡ b
-      → Told (guarding guards) s (acted (t .0) action.Begin s .depths) j i (t .0) action.Begin (judgeOperation i t (depthOf s t) h Begin j)
+      → Told (guarding guards) s (nested (t .0) action.Begin s .depths) j i (t .0) action.Begin (judgeOperation i t (depthOf s t) h Begin j)
   unfolding judgeOperation
   begin-told h true e =
       let r = moved (s .depths) j z (t .0) small (set (j .begins) (t .0) i) (depthOf s t + 1) 0 in
@@ -251,7 +256,7 @@ module _ (guards : List ℕ) (s : State) (j : Judging) (z : Sized (s .depths) j)
 
   -- an end, outermost or nested
   end-told : (h : ℕ) → (depthOf s t ≡ 0 → ⊥) → Dec (depthOf s t ≡ 1)
-      → Told (guarding guards) s (acted (t .0) action.End s .depths) j i (t .0) action.End (judgeOperation i t (depthOf s t) h End j)
+      → Told (guarding guards) s (nested (t .0) action.End s .depths) j i (t .0) action.End (judgeOperation i t (depthOf s t) h End j)
   unfolding judgeOperation
   end-told h p (yes e) =
       let r = deepened (s .depths) j z (t .0) small (depthOf s t - 1) in
@@ -262,19 +267,35 @@ module _ (guards : List ℕ) (s : State) (j : Judging) (z : Sized (s .depths) j)
       let q = stays (storeOf (s .depths) j) (t .0) _ (stage-deep (depthOf s t) (depthOf s t - 1) (commitOf j t) p (omega arith)) in
       goes refl (rw (r ∙ q) (ins-nested-exit (omega arith))) (deepened-sized _)
 
-  -- any action that has a step
-  action-told : (n : State) (a : Action) → ObjectInRange a → Acts s (t .0) a n
-      → Told (guarding guards) s (acted (t .0) a s .depths) j i (t .0) a (judgeOperation i t (depthOf s t) (heldSet (t .0) (s .owners)) (operationOf guards a) j)
-  unfolding judgeOperation
-  action-told n (action.Acquire l) h e = acquire-told l (eqb (depthOf s t) 0) refl (eqb (commitOf j t) 0) refl
-  action-told n (action.Release l) h e = release-told l (eqb (depthOf s t) 0) refl
-  action-told n (action.Read x) h e = access-told x reads h (guardOf (getD guards (x .0) 0)) refl
-  action-told n (action.Write x) h e = access-told x writes h (guardOf (getD guards (x .0) 0)) refl
-  action-told n action.Begin h e = begin-told (heldSet (t .0) (s .owners)) (eqb (depthOf s t) 0) refl
-  action-told n action.End h e = end-told (heldSet (t .0) (s .owners)) (open-before e) (ℕ-discrete (depthOf s t) 1)
+  -- any action that passes, at its level
+  abbrev Passed : Level → State → Action → Type 0
+  Passed x n a = Told (guarding guards) s (n .depths) j i (t .0) a (judgeOperation i t (depthOf s t) (heldSet (t .0) (s .owners)) (operationOf guards x a) j)
 
--- The pass makes of a frame that has a step what the rules say of it.
-pub frame-told : (guards : List ℕ) (s n : State) (j : Judging) (i : ℕ) (f : Frame) → Sized (s .depths) j → InRange f → Acts s (f .thread .0) (f .action) n
+  acquired-told : (l : Lock) {x : Level} {n : State} → Acquired (t .0) l s x n → Passed x n (action.Acquire l)
+  unfolding judgeOperation
+  acquired-told l (took e) = acquire-told l (λ q. omega arith) (eqb (depthOf s t) 0) refl (eqb (commitOf j t) 0) refl
+  acquired-told l (took-again e h) = inner-told l e (ins-reentrant-acquire e)
+
+  released-told : (l : Lock) {x : Level} {n : State} → Released (t .0) l s x n → Passed x n (action.Release l)
+  unfolding judgeOperation
+  released-told l (freed e h) = release-told l h (eqb (depthOf s t) 0) refl
+  released-told l (let-go e h) = inner-told l e (ins-reentrant-release e h)
+
+  action-told : (n : State) (a : Action) (x : Level) → ObjectInRange a → stepAction (t .0) a s ≡ stepped (outcome.Next x) n → Passed x n a
+  unfolding stepAction
+  action-told n (action.Acquire l) x h e = acquired-told l (acquired (t .0) l s e)
+  action-told n (action.Release l) x h e = released-told l (released (t .0) l s e)
+  action-told n (action.Read v) x h e = rw (sym (ap (λ (y : Stepped). y .state) e)) (access-told v reads h (guardOf (getD guards (v .0) 0)) refl)
+  action-told n (action.Write v) x h e = rw (sym (ap (λ (y : Stepped). y .state) e)) (access-told v writes h (guardOf (getD guards (v .0) 0)) refl)
+  action-told n action.Begin x h e =
+      let p = spared (leb deepest (depthOf s t)) refusal.TooDeep s (nested (t .0) action.Begin s) n e in
+      rw (p .1) (begin-told (heldSet (t .0) (s .owners)) (eqb (depthOf s t) 0) refl)
+  action-told n action.End x h e =
+      let p = spared (eqb (depthOf s t) 0) refusal.NoOpenBlock s (nested (t .0) action.End s) n e in
+      rw (p .1) (end-told (heldSet (t .0) (s .owners)) (eqb-false _ _ (p .0)) (ℕ-discrete (depthOf s t) 1))
+
+-- The pass makes of a frame that passes what the rules say of it.
+pub frame-told : (guards : List ℕ) (s n : State) (j : Judging) (i : ℕ) (f : Frame) (x : Level) → Sized (s .depths) j → InRange f
+    → stepFrame f s ≡ stepped (outcome.Next x) n
     → Told (guarding guards) s (n .depths) j i (f .thread .0) (f .action) (judgeFrame guards i f s j)
-frame-told guards s n j i f z r e =
-    rw (acts-to e) (action-told guards s j z i (f .thread) (r .thread) n (f .action) (r .object) e)
+frame-told guards s n j i f x z r e = rw e (action-told guards s j z i (f .thread) (r .thread) n (f .action) x (r .object) e)

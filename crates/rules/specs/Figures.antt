@@ -1,18 +1,19 @@
--- The rules of the paper's figures 4, 8 and 11 as relations, one constructor for each rule, named as there, and what they say of frames and of
--- whole recordings. The rules of figure 11 that are those of figure 8 over again ([INS2 ACQUIRE], [INS2 RELEASE COMMIT], ..) are stated once;
--- figure 8's accesses are of variables whose guard is declared, figure 11's of those whose guard is inferred. The empty operation is no frame.
--- In this order: figure 4 and the claim of sound frames, the stores, figures 8 and 11, recordings, the claims of the verdicts.
--- Quotes are from docs/FORMAT.md, but for those of the paper's section 2.2 and figures.
+-- The rules of the paper's figures 4, 8 and 11 as relations, one constructor for each rule, named as there, with those of section 4.3 for
+-- re-entrant locks, and what they say of frames and of whole recordings. The rules of figure 11 that are those of figure 8 over again
+-- ([INS2 ACQUIRE], [INS2 RELEASE COMMIT], ..) are stated once; figure 8's accesses are of variables whose guard is declared, figure 11's of
+-- those whose guard is inferred. The empty operation is no frame.
+-- In this order: figure 4 and the claims of sound frames and of counts, the stores, figures 8 and 11, recordings, the claims of the verdicts.
+-- Quotes are from docs/FORMAT.md, but for those of the paper's sections 2.2 and 4.3 and figures.
 use Prim.Native.Nat.{ℕ, suc, _+_, _-_, _≤_, _<_}
 use mathlib.Core.Path.{_≡_}
 use mathlib.Core.Bool.{cond}
-use mathlib.Core.Logic.{_↔_}
+use mathlib.Core.Logic.{_↔_, _⊎_}
 use mathlib.Core.List.{List, [], _∷_}
 use lib.Bits.{bitAnd}
 use lib.Dec.{eqb}
 use lib.ListN.{getD, set}
 use Rattle.guards.specs.declared.Judgement.the-variants.{Declared}
-use Rattle.frame.specs.Limits.{variableCount, deepest}
+use Rattle.frame.specs.Limits.{lockCount, variableCount, deepest, mostHeld}
 use Rattle.frame.specs.Frame.{decodeWord}
 use Rattle.frame.specs.declared.Lock.{Lock}
 use Rattle.frame.specs.declared.Variable.{Variable}
@@ -25,7 +26,8 @@ use Rattle.guards.specs.Guards.{guardOf, guardsRead, listedGuard}
 use Rattle.guards.specs.declared.Guard.{Guard}
 use Rattle.guards.specs.declared.Guard.the-variants.{Locked, Unprotected, Inferred}
 use Rattle.guards.specs.declared.GuardsReply.the-variants as guards-reply
-use Rattle.soundness.specs.Soundness.{State, stateOf, stepped, stepFrame, checkReply, start}
+use Rattle.soundness.specs.Soundness.{State, stateOf, ownerOf, countOf, withCount, withOwner, stepped, stepFrame, checkFrom, checkReply, start}
+use Rattle.soundness.specs.declared.Level.{Level}
 use Rattle.soundness.specs.declared.Outcome.the-variants as outcome
 use Rattle.soundness.specs.declared.CheckReply.the-variants as check
 use Rattle.reply.specs.Reply.{reducible, violated}
@@ -37,8 +39,8 @@ use Rattle.instrumented.specs.Held.{heldSet}
 use Rattle.pass.specs.Pass.{fullSets, judgement}
 use Rattle.verdict.specs.Verdict.{verdictUnder, inferredReply}
 
--- An operation of thread t leads to the state n: figure 4's rules on the owner of each lock, 0 for none and else a thread plus 1 (σ), and on the
--- depth of each thread (A(Π(t))). A recording has no values, so a read has no premise and a write no effect.
+-- An operation of thread t leads to the state n: figure 4's rules on the owner of each lock, 0 for none and else a thread plus 1, and on how
+-- often it is held (σ), and on the depth of each thread (A(Π(t))). A recording has no values, so a read has no premise and a write no effect.
 module _ (s : State) (t : ℕ) where
   pub data Acts : Action → State → Type 0 where
     -- [ACT READ], without σ(x) = v
@@ -46,38 +48,52 @@ module _ (s : State) (t : ℕ) where
     -- [ACT WRITE], without x := v
     act-write : {x : Variable} → Acts (action.Write x) s
     -- [ACT ACQUIRE]
-    act-acquire : {m : Lock} → getD (s .owners) (m .0) 0 ≡ 0 → Acts (action.Acquire m) (stateOf (set (s .owners) (m .0) (t + 1)) (s .depths))
-    -- [ACT RELEASE]
-    act-release : {m : Lock} → getD (s .owners) (m .0) 0 ≡ t + 1 → Acts (action.Release m) (stateOf (set (s .owners) (m .0) 0) (s .depths))
+    act-acquire : {m : Lock} → ownerOf m s ≡ 0 → Acts (action.Acquire m) (withOwner m (t + 1) 1 s)
+    -- [ACT RELEASE], of a lock that is held once
+    act-release : {m : Lock} → ownerOf m s ≡ t + 1 → countOf m s ≤ 1 → Acts (action.Release m) (withOwner m 0 0 s)
+    -- "Java provides re-entrant locks" (section 4.3)
+    act-reentrant-acquire : {m : Lock} → ownerOf m s ≡ t + 1 → Acts (action.Acquire m) (withCount m (countOf m s + 1) s)
+    act-reentrant-release : {m : Lock} → ownerOf m s ≡ t + 1 → 1 < countOf m s → Acts (action.Release m) (withCount m (countOf m s - 1) s)
     -- [ACT OTHER], and "if T(t, π, begin, π′) then A(π′) = A(π) + 1" of section 2.2
-    act-other-begin : Acts action.Begin (stateOf (s .owners) (set (s .depths) t (getD (s .depths) t 0 + 1)))
+    act-other-begin : Acts action.Begin (stateOf (s .owners) (s .counts) (set (s .depths) t (getD (s .depths) t 0 + 1)))
     -- [ACT OTHER], and "if T(t, π, end, π′), then A(π) > 0 and A(π′) = A(π) - 1" of section 2.2
-    act-other-end : 0 < getD (s .depths) t 0 → Acts action.End (stateOf (s .owners) (set (s .depths) t (getD (s .depths) t 0 - 1)))
+    act-other-end : 0 < getD (s .depths) t 0 → Acts action.End (stateOf (s .owners) (s .counts) (set (s .depths) t (getD (s .depths) t 0 - 1)))
 
--- The format's own limit, which the figures do not have: "9: begin inside 15 open blocks of this thread".
-abbrev pub BelowLimit : Action → ℕ → Type 0
-BelowLimit (action.Acquire m) d = Unit {0}
-BelowLimit (action.Release m) d = Unit {0}
-BelowLimit (action.Read x) d = Unit {0}
-BelowLimit (action.Write x) d = Unit {0}
-BelowLimit action.Begin d = d < deepest
-BelowLimit action.End d = Unit {0}
+-- The format's own limits, which the figures do not have: "9: begin inside 15 open blocks of this thread .. 20: acquire of a lock that this
+-- thread holds 15 times already".
+abbrev pub BelowLimit : State → ℕ → Action → Type 0
+BelowLimit s t (action.Acquire m) = ownerOf m s ≡ t + 1 → countOf m s < mostHeld
+BelowLimit s t (action.Release m) = Unit {0}
+BelowLimit s t (action.Read x) = Unit {0}
+BelowLimit s t (action.Write x) = Unit {0}
+BelowLimit s t action.Begin = getD (s .depths) t 0 < deepest
+BelowLimit s t action.End = Unit {0}
 
 -- Figure 4 has no step for the frame.
 abbrev pub NoStep : Frame → State → Type 0
 NoStep f s = (n : State) → Acts s (f .thread .0) (f .action) n → ⊥
 
--- A frame passes in sequence exactly if figure 4 has a step for it and it is below the limit, and leads where that step leads. It is refused
--- by 7, 8 and 10 exactly if it is an acquire, a release and an end for which figure 4 has no step, and by 9 exactly if it is a begin inside 15
--- open blocks.
+-- A frame passes in sequence exactly if figure 4 has a step for it and it is below the limits, and leads where that step leads. It is refused
+-- by 7, 8 and 10 exactly if it is an acquire, a release and an end for which figure 4 has no step, by 9 exactly if it is a begin inside 15
+-- open blocks, and by 20 exactly if it is an acquire of a lock that its thread holds 15 times.
 abbrev pub SoundnessIsOfTheRules : Type 0
 SoundnessIsOfTheRules =
     (f : Frame) (s : State)
-    → ((n : State) → stepFrame f s ≡ stepped outcome.Next n ↔ (Acts s (f .thread .0) (f .action) n × BelowLimit (f .action) (getD (s .depths) (f .thread .0) 0)))
+    → ((n : State) → ((x : Level) × (stepFrame f s ≡ stepped (outcome.Next x) n)) ↔ (Acts s (f .thread .0) (f .action) n × BelowLimit s (f .thread .0) (f .action)))
     × (stepFrame f s .outcome ≡ outcome.Bad refusal.LockTaken ↔ ((m : Lock) × (f .action ≡ action.Acquire m) × NoStep f s))
     × (stepFrame f s .outcome ≡ outcome.Bad refusal.LockNotHeld ↔ ((m : Lock) × (f .action ≡ action.Release m) × NoStep f s))
     × (stepFrame f s .outcome ≡ outcome.Bad refusal.TooDeep ↔ ((f .action ≡ action.Begin) × (deepest ≤ getD (s .depths) (f .thread .0) 0)))
     × (stepFrame f s .outcome ≡ outcome.Bad refusal.NoOpenBlock ↔ ((f .action ≡ action.End) × NoStep f s))
+    × (stepFrame f s .outcome ≡ outcome.Bad refusal.TooOften
+    ↔ ((m : Lock) × (f .action ≡ action.Acquire m) × (ownerOf m s ≡ f .thread .0 + 1) × (mostHeld ≤ countOf m s)))
+
+-- "A lock is free, or has an owner, the thread that holds it, and a count of how often it is held, 1 to 15": so is every lock after a sound
+-- recording.
+abbrev pub Counted : State → Lock → Type 0
+Counted s l = ((ownerOf l s ≡ 0) × (countOf l s ≡ 0)) ⊎ ((0 < ownerOf l s) × (0 < countOf l s) × (countOf l s ≤ mostHeld))
+
+abbrev pub LocksAreCounted : Type 0
+LocksAreCounted = (ws : List ℕ) → checkReply ws ≡ check.Sound → (l : Lock) → l .0 < lockCount → Counted (checkFrom 0 start ws .state) l
 
 -- The paper's instrumentation store φ: the phase of each thread, and the candidate lock set of each variable.
 pub data Stage : Type 0 where
@@ -101,9 +117,6 @@ pub data Accesses : Action → Variable → Type 0 where
 
 -- P gives each variable's guard: a lock (P(x) defined), unprotected (undefined), or inferred. heldSet t is H(t, σ).
 module _ (P : ℕ → Guard) (s : State) (φ : Store) (t : ℕ) where
-  abbrev pub owner : Lock → ℕ
-  owner m = getD (s .owners) (m .0) 0
-
   abbrev pub depth : ℕ
   depth = getD (s .depths) t 0
 
@@ -112,12 +125,15 @@ module _ (P : ℕ → Guard) (s : State) (φ : Store) (t : ℕ) where
 
   -- An operation of thread t leads to the store φ′.
   pub data Steps : Action → Store → Type 0 where
-    ins-access-protected : {a : Action} {x : Variable} {m : Lock} → Accesses a x → P (x .0) ≡ Locked m → owner m ≡ t + 1 → Steps a φ
+    ins-access-protected : {a : Action} {x : Variable} {m : Lock} → Accesses a x → P (x .0) ≡ Locked m → ownerOf m s ≡ t + 1 → Steps a φ
     ins-race-commit : {a : Action} {x : Variable} → Accesses a x → P (x .0) ≡ Unprotected → φ .stage t ≡ PreCommit → Steps a (putStage φ t PostCommit)
     ins-race-outside : {a : Action} {x : Variable} → Accesses a x → P (x .0) ≡ Unprotected → φ .stage t ≡ Outside → Steps a φ
-    ins-acquire : {m : Lock} → (φ .stage t ≡ PostCommit → ⊥) → Steps (action.Acquire m) φ
-    ins-release-commit : {m : Lock} → (φ .stage t ≡ Outside → ⊥) → Steps (action.Release m) (putStage φ t PostCommit)
-    ins-release-outside : {m : Lock} → φ .stage t ≡ Outside → Steps (action.Release m) φ
+    ins-acquire : {m : Lock} → (ownerOf m s ≡ t + 1 → ⊥) → (φ .stage t ≡ PostCommit → ⊥) → Steps (action.Acquire m) φ
+    ins-release-commit : {m : Lock} → countOf m s ≤ 1 → (φ .stage t ≡ Outside → ⊥) → Steps (action.Release m) (putStage φ t PostCommit)
+    ins-release-outside : {m : Lock} → countOf m s ≤ 1 → φ .stage t ≡ Outside → Steps (action.Release m) φ
+    -- "a re-entrant lock acquire is a both-mover .. Similarly, a re-entrant release is also a both-mover." (section 4.3)
+    ins-reentrant-acquire : {m : Lock} → ownerOf m s ≡ t + 1 → Steps (action.Acquire m) φ
+    ins-reentrant-release : {m : Lock} → ownerOf m s ≡ t + 1 → 1 < countOf m s → Steps (action.Release m) φ
     ins-enter : depth ≡ 0 → Steps action.Begin (putStage φ t PreCommit)
     ins-nested-enter : 0 < depth → Steps action.Begin φ
     ins-exit : depth ≡ 1 → Steps action.End (putStage φ t Outside)
@@ -126,9 +142,9 @@ module _ (P : ℕ → Guard) (s : State) (φ : Store) (t : ℕ) where
 
   -- An operation of thread t goes wrong, with the kind that docs/FORMAT.md gives to the rule.
   pub data Wrong : Action → Kind → Type 0 where
-    wrong-access-protected : {a : Action} {x : Variable} {m : Lock} → Accesses a x → P (x .0) ≡ Locked m → (owner m ≡ t + 1 → ⊥) → Wrong a GuardNotHeld
+    wrong-access-protected : {a : Action} {x : Variable} {m : Lock} → Accesses a x → P (x .0) ≡ Locked m → (ownerOf m s ≡ t + 1 → ⊥) → Wrong a GuardNotHeld
     wrong-race-violate : {a : Action} {x : Variable} → Accesses a x → P (x .0) ≡ Unprotected → φ .stage t ≡ PostCommit → Wrong a UnprotectedAfterCommit
-    wrong-acquire : {m : Lock} → φ .stage t ≡ PostCommit → Wrong (action.Acquire m) AcquireAfterCommit
+    wrong-acquire : {m : Lock} → (ownerOf m s ≡ t + 1 → ⊥) → φ .stage t ≡ PostCommit → Wrong (action.Acquire m) AcquireAfterCommit
     wrong2-race : {a : Action} {x : Variable} → Accesses a x → P (x .0) ≡ Inferred → shared x ≡ 0 → Wrong a SetEmptied
 
 module _ (P : ℕ → Guard) where

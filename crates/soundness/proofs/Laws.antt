@@ -1,19 +1,22 @@
--- Laws of soundness: how a pass goes on from place i, by what the frame there does, what a sound recording is, and where another is refused.
-use Prim.Native.Nat.{ℕ, zero, suc, _+_, _≤_, _<_}
-use mathlib.Core.Path.{_≡_, refl, sym, ap, _∙_}
+-- Laws of soundness: how a pass goes on from place i, by what the frame there does, what a sound recording is, how an acquire and a release
+-- lead on, and where another recording is refused.
+use Prim.Native.Nat.{ℕ, zero, suc, _+_, _-_, _≤_, _<_}
+use mathlib.Core.Path.{_≡_, refl, sym, ap, _∙_, subst}
 use mathlib.Core.Bool.{Bool, true, false, cond}
 use mathlib.Core.List.{List, [], _∷_}
 use native.Mathlib.Omega.{arith}
 use native.Mathlib.Numerals.{add-one}
 use lib.ListN.{length, getD, drop, drop-of-length-le}
 use lib.Seq.{drop-cons}
-use lib.Dec.{ltb}
-use borrow.Author.Tests.{le-ltb, ltb-false}
+use lib.Dec.{eqb, leb, ltb}
+use borrow.Author.Tests.{le-ltb, ltb-false, leb-true, leb-false, eqb-true}
 use Rattle.frame.specs.Refusal.{refusedAt}
-use Rattle.frame.specs.Limits.{mostFrames}
+use Rattle.frame.specs.Limits.{mostFrames, mostHeld}
 use Rattle.laws.proofs.Logic.{never}
 use Rattle.frame.specs.Frame.{decodeWord}
 use Rattle.frame.specs.declared.Frame.{Frame}
+use Rattle.frame.specs.declared.Lock.{Lock}
+use Rattle.frame.specs.declared.Action.the-variants.{Acquire, Release}
 use Rattle.frame.specs.declared.Decoded.{Decoded}
 use Rattle.frame.specs.declared.Decoded.the-variants as decoded
 use Rattle.frame.specs.declared.Refused.{Refused}
@@ -23,7 +26,9 @@ use Rattle.soundness.specs.declared.CheckReply.{CheckReply}
 use Rattle.soundness.specs.declared.CheckReply.the-variants as reply
 use Rattle.soundness.specs.declared.Outcome.{Outcome}
 use Rattle.soundness.specs.declared.Outcome.the-variants as outcome
-use Rattle.soundness.specs.Soundness.{State, Stepped, stepped, stepFrame, stepDecoded, onOutcome, checked, Checked, checkFrom, checkReply, start}
+use Rattle.soundness.specs.declared.Level.{Level}
+use Rattle.soundness.specs.declared.Level.the-variants.{Outer, Inner}
+use Rattle.soundness.specs.Soundness.{State, ownerOf, countOf, withCount, withOwner, Stepped, stepped, stepAction, stepFrame, stepDecoded, onOutcome, checked, Checked, checkFrom, checkReply, start}
 
 pub check-short : (ws : List ℕ) → length ws ≤ mostFrames → checkReply ws ≡ checkFrom 0 start ws .reply
 check-short ws h = rw (le-ltb mostFrames (length ws) h)
@@ -49,7 +54,7 @@ module _ (ws : List ℕ) (i : ℕ) (s : State) where
       check-fail r g = opened ∙ rw (e, g)
 
       -- the frame passes
-      pub check-next : stepFrame f s ≡ stepped outcome.Next n → checkFrom i s (drop i ws) ≡ checkFrom (i + 1) n (drop (i + 1) ws)
+      pub check-next : {x : Level} → stepFrame f s ≡ stepped (outcome.Next x) n → checkFrom i s (drop i ws) ≡ checkFrom (i + 1) n (drop (i + 1) ws)
       check-next g = opened ∙ rw (e, g)
 
 -- a sound recording has at most 4,096 frames
@@ -65,9 +70,10 @@ sound-fits ws e = go (ltb mostFrames (length ws)) refl
 -- The first of frames that are sound.
 pub record First (i : ℕ) (s : State) (w : ℕ) (ws : List ℕ) : Type 0 where
   pub frame : Frame
+  pub level : Level
   pub next : State
   pub is : decodeWord w ≡ decoded.Frame frame
-  pub passes : stepFrame frame s ≡ stepped outcome.Next next
+  pub passes : stepFrame frame s ≡ stepped (outcome.Next level) next
   pub rest : checkFrom (i + 1) next ws .reply ≡ reply.Sound
 
 pub sound-first : (i : ℕ) (s : State) (w : ℕ) (ws : List ℕ) → checkFrom i s (w ∷ ws) .reply ≡ reply.Sound → First i s w ws
@@ -75,7 +81,7 @@ unfolding checkFrom
 sound-first i s w ws c = decode-case (decodeWord w) refl
   where
     step-case : (f : Frame) → decodeWord w ≡ decoded.Frame f → (o : Outcome) (n : State) → stepFrame f s ≡ stepped o n → First i s w ws
-    step-case f d outcome.Next n g = record { frame = f; next = n; is = d; passes = g; rest = rw (d, g) at c }
+    step-case f d (outcome.Next x) n g = record { frame = f; level = x; next = n; is = d; passes = g; rest = rw (d, g) at c }
     step-case f d (outcome.Bad b) n g = let y : reply.Refused (refusedAt b i) ≡ reply.Sound = rw (d, g) at c in never (cc)
 
     decode-case : (x : Decoded) → decodeWord w ≡ x → First i s w ws
@@ -96,19 +102,62 @@ pub sound-not-bad : {A : Type 0} {b : Refusal} (ws : List ℕ) → checkReply ws
 sound-not-bad ws c = no-bad 0 start ws (sym (check-short ws (sound-fits ws c)) ∙ c)
 
 -- a refused step is no step on
-no-step : {A : Type 0} (r : Refusal) (s n : State) → stepped (outcome.Bad r) s ≡ stepped outcome.Next n → A
-no-step r s n e = let f : outcome.Bad r ≡ outcome.Next = ap (λ (x : Stepped). x .outcome) e in never (cc)
+no-step : {A : Type 0} {x : Level} (r : Refusal) (s n : State) → stepped (outcome.Bad r) s ≡ stepped (outcome.Next x) n → A
+no-step {x = x} r s n e = let f : outcome.Bad r ≡ outcome.Next x = ap (λ (y : Stepped). y .outcome) e in never (cc)
 
--- what a step on shows where a test lets it pass or holds it up: the test's answer, and the state that it leads to
-pub passed : (b : Bool) (r : Refusal) (s m n : State) → cond b (stepped outcome.Next m) (stepped (outcome.Bad r) s) ≡ stepped outcome.Next n
-    → (b ≡ true) × (n ≡ m)
-passed true r s m n e = (refl, sym (ap (λ (x : Stepped). x .state) e))
-passed false r s m n e = no-step r s n e
-
-pub spared : (b : Bool) (r : Refusal) (s m n : State) → cond b (stepped (outcome.Bad r) s) (stepped outcome.Next m) ≡ stepped outcome.Next n
+-- what a step on shows where a test holds it up: the test's answer, and the state that it leads to
+pub spared : {x : Level} (b : Bool) (r : Refusal) (s m n : State) → cond b (stepped (outcome.Bad r) s) (stepped (outcome.Next Outer) m) ≡ stepped (outcome.Next x) n
     → (b ≡ false) × (n ≡ m)
 spared true r s m n e = no-step r s n e
-spared false r s m n e = (refl, sym (ap (λ (x : Stepped). x .state) e))
+spared false r s m n e = (refl, sym (ap (λ (z : Stepped). z .state) e))
+
+module _ (t : ℕ) (l : Lock) (s : State) where
+  -- An acquire and a release that pass: what they show of the lock, and where they lead.
+  pub data Acquired : Level → State → Type 0 where
+    took : ownerOf l s ≡ 0 → Acquired Outer (withOwner l (t + 1) 1 s)
+    took-again : ownerOf l s ≡ t + 1 → countOf l s < mostHeld → Acquired Inner (withCount l (countOf l s + 1) s)
+
+  pub data Released : Level → State → Type 0 where
+    freed : ownerOf l s ≡ t + 1 → countOf l s ≤ 1 → Released Outer (withOwner l 0 0 s)
+    let-go : ownerOf l s ≡ t + 1 → 1 < countOf l s → Released Inner (withCount l (countOf l s - 1) s)
+
+  same-step : {x y : Level} {m n : State} (P : Level → State → Type 0) → stepped (outcome.Next y) m ≡ stepped (outcome.Next x) n → P y m → P x n
+  same-step {x} {y} {m} {n} P e p =
+      let a : y ≡ x = same-level (ap (λ (z : Stepped). z .outcome) e) in
+      subst (λ (k : State). P x k) (ap (λ (z : Stepped). z .state) e) (subst (λ (k : Level). P k m) a p)
+    where
+      same-level : {x y : Level} → outcome.Next y ≡ outcome.Next x → y ≡ x
+      same-level e = cc
+
+  pub acquired : {x : Level} {n : State} → stepAction t (Acquire l) s ≡ stepped (outcome.Next x) n → Acquired x n
+  unfolding stepAction
+  acquired {x} {n} e = go (eqb (ownerOf l s) 0) (eqb (ownerOf l s) (t + 1)) (leb mostHeld (countOf l s)) refl refl refl e
+    where
+      go : (a b d : Bool) → eqb (ownerOf l s) 0 ≡ a → eqb (ownerOf l s) (t + 1) ≡ b → leb mostHeld (countOf l s) ≡ d
+          → cond a (stepped (outcome.Next Outer) (withOwner l (t + 1) 1 s))
+          (cond b
+          (cond d (stepped (outcome.Bad refusal.TooOften) s) (stepped (outcome.Next Inner) (withCount l (countOf l s + 1) s)))
+          (stepped (outcome.Bad refusal.LockTaken) s))
+          ≡ stepped (outcome.Next x) n
+          → Acquired x n
+      go true b d p q r f = same-step Acquired f (took (eqb-true _ _ p))
+      go false true true p q r f = no-step _ s n f
+      go false true false p q r f = same-step Acquired f (took-again (eqb-true _ _ q) (leb-false mostHeld (countOf l s) r))
+      go false false d p q r f = no-step _ s n f
+
+  pub released : {x : Level} {n : State} → stepAction t (Release l) s ≡ stepped (outcome.Next x) n → Released x n
+  unfolding stepAction
+  released {x} {n} e = go (eqb (ownerOf l s) (t + 1)) (leb (countOf l s) 1) refl refl e
+    where
+      go : (a b : Bool) → eqb (ownerOf l s) (t + 1) ≡ a → leb (countOf l s) 1 ≡ b
+          → cond a
+          (cond b (stepped (outcome.Next Outer) (withOwner l 0 0 s)) (stepped (outcome.Next Inner) (withCount l (countOf l s - 1) s)))
+          (stepped (outcome.Bad refusal.LockNotHeld) s)
+          ≡ stepped (outcome.Next x) n
+          → Released x n
+      go true true p q f = same-step Released f (freed (eqb-true _ _ p) (leb-true (countOf l s) 1 q))
+      go true false p q f = same-step Released f (let-go (eqb-true _ _ p) (leb-false (countOf l s) 1 q))
+      go false b p q f = no-step _ s n f
 
 -- the place of a refusal, 0 of none
 abbrev placeOf : CheckReply → ℕ
@@ -117,7 +166,7 @@ placeOf (reply.Refused r) = r .place
 
 outcome-place : (o : Outcome) (s : State) (i m : ℕ) (rest : State → Checked) → i ≤ m → ((n : State) → placeOf (rest n .reply) ≤ m)
     → placeOf (onOutcome o s i rest .reply) ≤ m
-outcome-place outcome.Next s i m rest h f = f s
+outcome-place (outcome.Next x) s i m rest h f = f s
 outcome-place (outcome.Bad r) s i m rest h f = h
 
 from-place : (i : ℕ) (s : State) (ws : List ℕ) (m : ℕ) → i + length ws ≤ m → placeOf (checkFrom i s ws .reply) ≤ m

@@ -5,6 +5,7 @@ use frame::Decoded;
 use frame::Frame;
 use frame::LOCKS;
 use frame::MOST;
+use frame::MOST_HELD;
 use frame::MOST_PLACE;
 use frame::Refusal;
 use frame::Refused;
@@ -20,35 +21,62 @@ pub enum CheckReply {
     Refused(Refused),
 }
 
+// Whether a frame is an inner acquire or release (the field's term is re-entrant), of a lock that its thread holds before and after.
+pub enum Level {
+    Outer,
+    Inner,
+}
+
 // What a frame does to the locks and blocks.
 pub enum Outcome {
-    Next,
+    Next(Level),
     Bad(Refusal),
 }
 
-// One frame: the owner of each lock (0 for none, else a thread's number plus 1) and the depth of each thread.
-pub fn step(owners: &mut [u8; LOCKS], depths: &mut [u8; THREADS], f: Frame) -> Outcome
+// One frame: the owner of each lock (0 for none, else a thread's number plus 1), how often it is held, and the depth of each thread.
+pub fn step(
+    owners: &mut [u8; LOCKS],
+    counts: &mut [u8; LOCKS],
+    depths: &mut [u8; THREADS],
+    f: Frame,
+) -> Outcome
     requires { ⌜ InRange f ⌝ }
-    ensures { λ r. ⌜ stepFrame f (stateOf (now (owners .entry)) (now (depths .entry))) ≡ stepped r (stateOf (now (owners .exit)) (now (depths .exit))) ⌝ }
+    ensures { λ r. ⌜ stepFrame f (stateOf (now (owners .entry)) (now (counts .entry)) (now (depths .entry))) ≡ stepped r (stateOf (now (owners .exit)) (now (counts .exit)) (now (depths .exit))) ⌝ }
 {
     let t = f.thread.0;
     let a = f.action;
     match a {
         Action::Acquire(l) => {
             let k = l.0 as usize;
-            if owners[k] != 0 {
+            let o = owners[k];
+            if o == 0 {
+                owners[k] = t + 1;
+                counts[k] = 1;
+                return Outcome::Next(Level::Outer);
+            }
+            if o != t + 1 {
                 return Outcome::Bad(Refusal::LockTaken);
             }
-            owners[k] = t + 1;
-            Outcome::Next
+            let n = counts[k];
+            if MOST_HELD <= n {
+                return Outcome::Bad(Refusal::TooOften);
+            }
+            counts[k] = n + 1;
+            Outcome::Next(Level::Inner)
         }
         Action::Release(l) => {
             let k = l.0 as usize;
             if owners[k] != t + 1 {
                 return Outcome::Bad(Refusal::LockNotHeld);
             }
-            owners[k] = 0;
-            Outcome::Next
+            let n = counts[k];
+            if n <= 1 {
+                owners[k] = 0;
+                counts[k] = 0;
+                return Outcome::Next(Level::Outer);
+            }
+            counts[k] = n - 1;
+            Outcome::Next(Level::Inner)
         }
         Action::Begin => {
             let k = t as usize;
@@ -57,7 +85,7 @@ pub fn step(owners: &mut [u8; LOCKS], depths: &mut [u8; THREADS], f: Frame) -> O
                 return Outcome::Bad(Refusal::TooDeep);
             }
             depths[k] = d + 1;
-            Outcome::Next
+            Outcome::Next(Level::Outer)
         }
         Action::End => {
             let k = t as usize;
@@ -66,10 +94,10 @@ pub fn step(owners: &mut [u8; LOCKS], depths: &mut [u8; THREADS], f: Frame) -> O
                 return Outcome::Bad(Refusal::NoOpenBlock);
             }
             depths[k] = d - 1;
-            Outcome::Next
+            Outcome::Next(Level::Outer)
         }
-        Action::Read(_) => Outcome::Next,
-        Action::Write(_) => Outcome::Next,
+        Action::Read(_) => Outcome::Next(Level::Outer),
+        Action::Write(_) => Outcome::Next(Level::Outer),
     }
 }
 
@@ -79,7 +107,7 @@ pub fn outcome_refusal(o: Outcome) -> Refusal
 {
     match o {
         Outcome::Bad(r) => r,
-        Outcome::Next => Refusal::LockTaken,
+        Outcome::Next(_) => Refusal::LockTaken,
     }
 }
 
@@ -87,11 +115,12 @@ pub fn outcome_refusal(o: Outcome) -> Refusal
 pub fn check_from(
     words: &[u32],
     owners: &mut [u8; LOCKS],
+    counts: &mut [u8; LOCKS],
     depths: &mut [u8; THREADS],
     from: usize,
 ) -> CheckReply
     requires { ⌜ from ≤ length (now words) ⌝ ∗ ⌜ length (now words) ≤ 4294967296 ⌝ }
-    ensures { λ r. ⌜ checked r (stateOf (now (owners .exit)) (now (depths .exit))) ≡ checkFrom from (stateOf (now (owners .entry)) (now (depths .entry))) (drop from (now (words .entry))) ⌝ }
+    ensures { λ r. ⌜ checked r (stateOf (now (owners .exit)) (now (counts .exit)) (now (depths .exit))) ≡ checkFrom from (stateOf (now (owners .entry)) (now (counts .entry)) (now (depths .entry))) (drop from (now (words .entry))) ⌝ }
 {
     let mut i = from;
     while i < words.len() {
@@ -102,8 +131,8 @@ pub fn check_from(
                 place: i as u32,
             });
         };
-        let o = step(owners, depths, f);
-        let Outcome::Next = o else {
+        let o = step(owners, counts, depths, f);
+        let Outcome::Next(_) = o else {
             return CheckReply::Refused(Refused {
                 reason: outcome_refusal(o),
                 place: i as u32,
@@ -125,6 +154,7 @@ pub fn check(words: &[u32]) -> CheckReply
         });
     }
     let mut owners = [0u8; LOCKS];
+    let mut counts = [0u8; LOCKS];
     let mut depths = [0u8; THREADS];
-    check_from(words, &mut owners, &mut depths, 0)
+    check_from(words, &mut owners, &mut counts, &mut depths, 0)
 }

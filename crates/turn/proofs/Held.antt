@@ -4,7 +4,6 @@ use mathlib.Core.Path.{_≡_, _∙_, sym, ap, refl, subst}
 use mathlib.Core.List.{List}
 use native.Mathlib.Omega.{arith}
 use native.Mathlib.Decide.{ℕ-discrete}
-use borrow.Author.Tests.{eqb-true}
 use lib.Dec.{eqb, leb}
 use lib.ListN.{length, getD, set, replicate, length-set, getD-replicate}
 use lib.Seq.{getD-set-same, getD-set-other}
@@ -17,7 +16,8 @@ use Rattle.frame.specs.declared.Lock.{Lock}
 use Rattle.frame.specs.declared.Refusal.{Refusal}
 use Rattle.frame.specs.declared.Refusal.the-variants as refusal
 use Rattle.soundness.specs.Soundness.{State, stateOf, nested, Stepped, stepped, stepAction, stepFrame}
-use Rattle.soundness.proofs.Laws.{passed, spared}
+use Rattle.soundness.proofs.Laws.{spared, Acquired, took, took-again, acquired, Released, freed, let-go, released}
+use Rattle.soundness.specs.declared.Level.{Level}
 use Rattle.soundness.specs.declared.Outcome.the-variants as outcome
 use Rattle.reply.specs.declared.Verdict.{Verdict}
 use Rattle.operation.specs.declared.Operation.{Operation}
@@ -43,56 +43,52 @@ stored owners owners′ held t x small long fs e other = record {
     go u h (no n) = getD-set-other held t u x 0 n ∙ fs .are u h ∙ sym (other u n)
 
 -- what a frame that passes needs of the held sets and makes of them
-pub record Held (guards hs : List ℕ) (t : ℕ) (a : Action) (n : State) : Type 0 where
-  pub fits : Holdable (operationOf guards a) (getD hs t 0)
-  pub follows : Follows (held t (operationOf guards a) hs) (n .owners)
+pub record Held (guards hs : List ℕ) (t : ℕ) (x : Level) (a : Action) (n : State) : Type 0 where
+  pub fits : Holdable (operationOf guards x a) (getD hs t 0)
+  pub follows : Follows (held t (operationOf guards x a) hs) (n .owners)
 
-module _ (guards hs : List ℕ) (t : ℕ) (s n : State) (small : t < threadCount) (fs : Follows hs (s .owners)) where
-  took : (l : Lock) → l .0 < lockCount → getD (s .owners) (l .0) 0 ≡ 0 → n ≡ stateOf (set (s .owners) (l .0) (t + 1)) (s .depths)
-      → Held guards hs t (action.Acquire l) n
-  took l lock free is =
+module _ (guards hs : List ℕ) (t : ℕ) (s : State) (small : t < threadCount) (fs : Follows hs (s .owners)) where
+  held-acquire : (l : Lock) → l .0 < lockCount → {x : Level} {n : State} → Acquired t l s x n → Held guards hs t x (action.Acquire l) n
+  held-acquire l lock (took free) =
       let h : l .0 < length (s .owners) = omega (arith, fs .owners-long) in
       let long : length (set (s .owners) (l .0) (t + 1)) ≡ lockCount = length-set (s .owners) _ _ ∙ fs .owners-long in
       let more : heldSet t (set (s .owners) (l .0) (t + 1)) ≡ getD hs t 0 + 2 ^ (l .0) = held-take (s .owners) (l .0) t h free ∙ rw (fs .are t small) in
       let below : heldSet t (set (s .owners) (l .0) (t + 1)) < 2 ^ lockCount = subst (λ (k : ℕ). heldSet t (set (s .owners) (l .0) (t + 1)) < 2 ^ k) long (held-lt t (set (s .owners) (l .0) (t + 1))) in
       record {
         fits = (lock, rw (← more) below);
-        follows = rw is (stored (s .owners) (set (s .owners) (l .0) (t + 1)) hs t (getD hs t 0 + 2 ^ (l .0)) small long fs (sym more) (λ u o.
-            held-same (s .owners) (l .0) (t + 1) h u (ap (mine u) free ∙ mine-other u 0 (omega arith) ∙ sym (mine-other u (t + 1) (λ z. o (omega arith))))));
+        follows = stored (s .owners) (set (s .owners) (l .0) (t + 1)) hs t (getD hs t 0 + 2 ^ (l .0)) small long fs (sym more) (λ u o.
+            held-same (s .owners) (l .0) (t + 1) h u (ap (mine u) free ∙ mine-other u 0 (omega arith) ∙ sym (mine-other u (t + 1) (λ z. o (omega arith)))));
       }
+  held-acquire l lock (took-again own below) = record { fits = lock; follows = fs }
 
-  freed : (l : Lock) → l .0 < lockCount → getD (s .owners) (l .0) 0 ≡ t + 1 → n ≡ stateOf (set (s .owners) (l .0) 0) (s .depths)
-      → Held guards hs t (action.Release l) n
-  freed l lock own is =
+  held-release : (l : Lock) → l .0 < lockCount → {x : Level} {n : State} → Released t l s x n → Held guards hs t x (action.Release l) n
+  held-release l lock (freed own last) =
       let h : l .0 < length (s .owners) = omega (arith, fs .owners-long) in
       let long : length (set (s .owners) (l .0) 0) ≡ lockCount = length-set (s .owners) _ _ ∙ fs .owners-long in
       let less : heldSet t (set (s .owners) (l .0) 0) + 2 ^ (l .0) ≡ getD hs t 0 = held-free (s .owners) (l .0) t h own ∙ sym (fs .are t small) in
       record {
         fits = (lock, omega arith);
-        follows = rw is (stored (s .owners) (set (s .owners) (l .0) 0) hs t (getD hs t 0 - 2 ^ (l .0)) small long fs (omega arith) (λ u o.
-            held-same (s .owners) (l .0) 0 h u (ap (mine u) own ∙ mine-other u (t + 1) (λ z. o (omega arith)) ∙ sym (mine-other u 0 (omega arith)))));
+        follows = stored (s .owners) (set (s .owners) (l .0) 0) hs t (getD hs t 0 - 2 ^ (l .0)) small long fs (omega arith) (λ u o.
+            held-same (s .owners) (l .0) 0 h u (ap (mine u) own ∙ mine-other u (t + 1) (λ z. o (omega arith)) ∙ sym (mine-other u 0 (omega arith))));
       }
+  held-release l lock (let-go own more) = record { fits = lock; follows = fs }
 
-  pub held-step : (a : Action) → ObjectInRange a → stepAction t a s ≡ stepped outcome.Next n → Held guards hs t a n
+  pub held-step : {x : Level} {n : State} (a : Action) → ObjectInRange a → stepAction t a s ≡ stepped (outcome.Next x) n → Held guards hs t x a n
   unfolding stepAction
-  held-step (action.Acquire l) r e =
-      let p = passed (eqb (getD (s .owners) (l .0) 0) 0) refusal.LockTaken s (stateOf (set (s .owners) (l .0) (t + 1)) (s .depths)) n e in
-      took l r (eqb-true _ _ (p .0)) (p .1)
-  held-step (action.Release l) r e =
-      let p = passed (eqb (getD (s .owners) (l .0) 0) (t + 1)) refusal.LockNotHeld s (stateOf (set (s .owners) (l .0) 0) (s .depths)) n e in
-      freed l r (eqb-true _ _ (p .0)) (p .1)
+  held-step (action.Acquire l) r e = held-acquire l r (acquired t l s e)
+  held-step (action.Release l) r e = held-release l r (released t l s e)
   held-step (action.Read v) r e = record {
     fits = access-fits (getD guards (v .0) 0) v (getD hs t 0) r;
-    follows = rw (access-holds (getD guards (v .0) 0) v t hs, ← ap (λ (x : Stepped). x .state) e) fs;
+    follows = rw (access-holds (getD guards (v .0) 0) v t hs, ← ap (λ (y : Stepped). y .state) e) fs;
   }
   held-step (action.Write v) r e = record {
     fits = access-fits (getD guards (v .0) 0) v (getD hs t 0) r;
-    follows = rw (access-holds (getD guards (v .0) 0) v t hs, ← ap (λ (x : Stepped). x .state) e) fs;
+    follows = rw (access-holds (getD guards (v .0) 0) v t hs, ← ap (λ (y : Stepped). y .state) e) fs;
   }
-  held-step action.Begin r e =
+  held-step {n = n} action.Begin r e =
       let p = spared (leb deepest (getD (s .depths) t 0)) refusal.TooDeep s (nested t action.Begin s) n e in
       record { fits = tt; follows = rw (p .1) fs }
-  held-step action.End r e =
+  held-step {n = n} action.End r e =
       let p = spared (eqb (getD (s .depths) t 0) 0) refusal.NoOpenBlock s (nested t action.End s) n e in
       record { fits = tt; follows = rw (p .1) fs }
 
@@ -105,22 +101,22 @@ none-held = record {
 }
 
 -- One frame, in the arrays' terms.
-module _ (guards depths : List ℕ) {owners hs : List ℕ} (fs : Follows hs owners) {f : Frame} (r : InRange f) where
-  pub frame-held : {n : State} → stepFrame f (stateOf owners depths) ≡ stepped outcome.Next n → Held guards hs (f .thread .0) (f .action) n
-  frame-held {n} g = held-step guards hs (f .thread .0) (stateOf owners depths) n (r .thread) fs (f .action) (r .object) g
+module _ (guards counts depths : List ℕ) {owners hs : List ℕ} (fs : Follows hs owners) {f : Frame} (r : InRange f) where
+  -- the locks and depths before the frame
+  abbrev here : State
+  here = stateOf owners counts depths
 
-  pub frame-judged : (i : ℕ) (j : Judging) {o : Operation} {v : Verdict} {k : Judging} → o ≡ operationOf guards (f .action)
-      → judgeOperation i (f .thread) (getD depths (f .thread .0) 0) (getD hs (f .thread .0) 0) o j ≡ judged v k
-      → judgeFrame guards i f (stateOf owners depths) j ≡ judged v k
-  frame-judged i j oe a = rw (← fs .are (f .thread .0) (r .thread), ← oe) a
+  module _ {x : Level} {n : State} (g : stepFrame f here ≡ stepped (outcome.Next x) n) where
+    pub frame-held : Held guards hs (f .thread .0) x (f .action) n
+    frame-held = held-step guards hs (f .thread .0) here (r .thread) fs (f .action) (r .object) g
 
-  -- what the frame does, by its step and its judgement
-  module _ (i : ℕ) (j : Judging) {n : State} where
-    pub turn-refused : {b : Refusal} → stepFrame f (stateOf owners depths) ≡ stepped (outcome.Bad b) n
-        → turned guards i f (stateOf owners depths) j ≡ turnedTo (turn.Refused b) n j
-    turn-refused g = rw g
-
-    pub turn-judged : {o : Operation} {v : Verdict} {k : Judging} → stepFrame f (stateOf owners depths) ≡ stepped outcome.Next n → o ≡ operationOf guards (f .action)
+    -- a frame that passes is judged
+    pub turn-judged : (i : ℕ) (j : Judging) {o : Operation} {v : Verdict} {k : Judging} → o ≡ operationOf guards x (f .action)
         → judgeOperation i (f .thread) (getD depths (f .thread .0) 0) (getD hs (f .thread .0) 0) o j ≡ judged v k
-        → turned guards i f (stateOf owners depths) j ≡ byVerdict v n k
-    turn-judged g oe a = rw (g, frame-judged i j oe a)
+        → turned guards i f here j ≡ byVerdict v n k
+    turn-judged i j oe a = let q = rw (fs .are (f .thread .0) (r .thread), oe) at a in rw (g, q)
+
+  -- one that does not is refused
+  pub turn-refused : (i : ℕ) (j : Judging) {n : State} {b : Refusal} → stepFrame f here ≡ stepped (outcome.Bad b) n
+      → turned guards i f here j ≡ turnedTo (turn.Refused b) n j
+  turn-refused i j g = rw g

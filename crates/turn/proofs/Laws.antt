@@ -8,6 +8,7 @@ use Rattle.reply.specs.declared.Verdict.the-variants as verdict
 use Rattle.soundness.specs.Soundness.{State, stepped, stepFrame}
 use Rattle.soundness.specs.declared.Outcome.{Outcome}
 use Rattle.soundness.specs.declared.Outcome.the-variants as outcome
+use Rattle.soundness.specs.declared.Level.{Level}
 use Rattle.instrumented.specs.Rules.{Judging, judged}
 use Rattle.judge.proofs.Laws.{wrong-keeps}
 use Rattle.turn.specs.declared.Turn.{Turn}
@@ -22,7 +23,7 @@ Kept (turn.Wrong v) j k = k ≡ j
 
 -- A frame that leads on has passed both.
 abbrev pub Passing : List ℕ → ℕ → Frame → State → Judging → Turn → State → Judging → Type 0
-Passing guards i f s j turn.Next n k = (stepFrame f s ≡ stepped outcome.Next n) × (judgeFrame guards i f s j ≡ judged verdict.Reducible k)
+Passing guards i f s j turn.Next n k = ((x : Level) × (stepFrame f s ≡ stepped (outcome.Next x) n)) × (judgeFrame guards i f s j ≡ judged verdict.Reducible k)
 Passing guards i f s j (turn.Refused r) n k = Unit {0}
 Passing guards i f s j (turn.Wrong v) n k = Unit {0}
 
@@ -33,14 +34,14 @@ module _ (guards : List ℕ) (i : ℕ) (f : Frame) (s : State) (j : Judging) whe
   lawful : Lawful (turned guards i f s j .turn) (turned guards i f s j .state) (turned guards i f s j .judging)
   lawful = step-case (stepFrame f s .outcome) (stepFrame f s .state) refl
     where
-      judge-case : (n : State) → stepFrame f s ≡ stepped outcome.Next n → (v : Verdict) (k : Judging) → judgeFrame guards i f s j ≡ judged v k
+      judge-case : (x : Level) (n : State) → stepFrame f s ≡ stepped (outcome.Next x) n → (v : Verdict) (k : Judging) → judgeFrame guards i f s j ≡ judged v k
           → Lawful (turned guards i f s j .turn) (turned guards i f s j .state) (turned guards i f s j .judging)
-      judge-case n g verdict.Reducible k a = rw (g, a) (tt, (g, a))
-      judge-case n g (verdict.Violated w) k a = rw (g, a) (wrong-keeps _ _ _ _ _ j w k a, tt)
+      judge-case x n g verdict.Reducible k a = rw (a, g) (tt, ((x, g), a))
+      judge-case x n g (verdict.Violated w) k a = rw (a, g) (wrong-keeps _ _ _ _ _ j w k a, tt)
 
       step-case : (o : Outcome) (n : State) → stepFrame f s ≡ stepped o n
           → Lawful (turned guards i f s j .turn) (turned guards i f s j .state) (turned guards i f s j .judging)
-      step-case outcome.Next n g = judge-case n g (judgeFrame guards i f s j .verdict) (judgeFrame guards i f s j .judging) refl
+      step-case (outcome.Next x) n g = judge-case x n g (judgeFrame guards i f s j .verdict) (judgeFrame guards i f s j .judging) refl
       step-case (outcome.Bad r) n g = rw g (refl, tt)
 
   module _ {q : Turn} {n : State} {k : Judging} (e : turned guards i f s j ≡ turnedTo q n k) where

@@ -7,7 +7,7 @@ use lib.ListN.{getD}
 use Rattle.frame.specs.declared.Frame.{Frame}
 use Rattle.reply.specs.declared.Verdict.{Verdict}
 use Rattle.reply.specs.declared.Verdict.the-variants as verdict
-use Rattle.soundness.specs.Soundness.{State, stepFrame}
+use Rattle.soundness.specs.Soundness.{State, stepFrame, levelOf}
 use Rattle.soundness.specs.declared.Outcome.{Outcome}
 use Rattle.soundness.specs.declared.Outcome.the-variants as outcome
 use Rattle.operation.specs.Operation.{operationOf}
@@ -19,7 +19,8 @@ use Rattle.turn.specs.declared.Turn.the-variants as turn
 -- One sound frame at place i, with the locks and depths as they are before it.
 abbrev pub judgeFrame : List ℕ → ℕ → Frame → State → Judging → Judged
 judgeFrame guards i f s j =
-    judgeOperation i (f .thread) (getD (s .depths) (f .thread .0) 0) (heldSet (f .thread .0) (s .owners)) (operationOf guards (f .action)) j
+    judgeOperation i (f .thread) (getD (s .depths) (f .thread .0) 0) (heldSet (f .thread .0) (s .owners))
+    (operationOf guards (levelOf (stepFrame f s .outcome)) (f .action)) j
 
 -- What a frame does, and the state after it. A violation leaves where the threads stand as it was, a refusal all.
 pub record Turned : Type 0 where
@@ -35,7 +36,7 @@ byVerdict verdict.Reducible s j = turnedTo turn.Next s j
 byVerdict (verdict.Violated v) s j = turnedTo (turn.Wrong v) s j
 
 abbrev pub byOutcome : Outcome → State → Judging → Turned → Turned
-byOutcome outcome.Next s j rest = rest
+byOutcome (outcome.Next x) s j rest = rest
 byOutcome (outcome.Bad r) s j rest = turnedTo (turn.Refused r) s j
 
 -- A frame at place i: "frame in sequence" refuses it, or the rules judge it.

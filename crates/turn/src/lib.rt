@@ -26,6 +26,7 @@ pub enum Turn {
 pub fn judge_frame(
     guards: &[u8; VARIABLES],
     owners: &mut [u8; LOCKS],
+    counts: &mut [u8; LOCKS],
     depths: &mut [u8; THREADS],
     held: &mut [u64; THREADS],
     begins: &mut [u32; THREADS],
@@ -35,18 +36,18 @@ pub fn judge_frame(
     f: Frame,
 ) -> Turn
     requires { ⌜ InRange f ⌝ ∗ ⌜ i < 4294967295 ⌝ ∗ ⌜ Follows (now held) (now owners) ⌝ }
-    ensures rules { λ r. ⌜ turned (now (guards .entry)) i f (stateOf (now (owners .entry)) (now (depths .entry))) (judgingOf (now (begins .entry)) (now (commits .entry)) (now (sets .entry))) ≡ turnedTo r (stateOf (now (owners .exit)) (now (depths .exit))) (judgingOf (now (begins .exit)) (now (commits .exit)) (now (sets .exit))) ⌝ }
+    ensures rules { λ r. ⌜ turned (now (guards .entry)) i f (stateOf (now (owners .entry)) (now (counts .entry)) (now (depths .entry))) (judgingOf (now (begins .entry)) (now (commits .entry)) (now (sets .entry))) ≡ turnedTo r (stateOf (now (owners .exit)) (now (counts .exit)) (now (depths .exit))) (judgingOf (now (begins .exit)) (now (commits .exit)) (now (sets .exit))) ⌝ }
     ensures locks { λ r. ⌜ FollowsAfter r (now (held .exit)) (now (owners .exit)) ⌝ }
 {
     let thread = f.thread;
     let t = thread.0 as usize;
     let depth = depths[t];
-    let o = soundness::step(owners, depths, f);
-    let Outcome::Next = o else {
+    let o = soundness::step(owners, counts, depths, f);
+    let Outcome::Next(level) = o else {
         return Turn::Refused(soundness::outcome_refusal(o));
     };
     let a = f.action;
-    let op = operation::operation_of(guards, a);
+    let op = operation::operation_of(guards, level, a);
     let v = judge::judge(held, begins, commits, sets, depth, i, thread, op);
     match v {
         Verdict::Reducible => Turn::Next,

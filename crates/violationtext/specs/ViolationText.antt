@@ -44,9 +44,9 @@ whySentence kind.UnprotectedAfterCommit true =
 whySentence kind.UnprotectedAfterCommit false =
     "  The variable has no guard: another thread may change it, or what the block accessed before, between these lines.\n"
 whySentence kind.AcquireAfterCommit true =
-    "  A block takes no lock after its commit: between these lines another thread may change what the block has read or written.\n"
+    "  A block takes no new lock after its commit: between these lines another thread may change what the block has read or written.\n"
 whySentence kind.AcquireAfterCommit false =
-    "  A block takes no lock after its commit, here lock ~: between these lines another thread may change what the block has read or written.\n"
+    "  A block takes no new lock after its commit, here lock ~: between these lines another thread may change what the block has read or written.\n"
 whySentence kind.SetEmptied true =
     "  Locks left that may guard variable $: ~. Thread & holds none of them, so no one lock guards every access of the variable.\n"
 whySentence kind.SetEmptied false =

@@ -93,11 +93,11 @@ fn say_why(out: &mut [u8], at: usize, kind: Kind, known: bool, f: Facts) -> usiz
     let sentence = textlines::nth_line(
         b"  The guard of variable $ is lock ~, and thread & does not hold it: another thread may access the variable at the same time.\n\
             \x20 Variable $ has no guard: another thread may change it, or what the block accessed before, between these lines.\n\
-            \x20 A block takes no lock after its commit: between these lines another thread may change what the block has read or written.\n\
+            \x20 A block takes no new lock after its commit: between these lines another thread may change what the block has read or written.\n\
             \x20 Locks left that may guard variable $: ~. Thread & holds none of them, so no one lock guards every access of the variable.\n\
             \x20 The guard of the variable is lock ~, and thread & does not hold it: another thread may access the variable at the same time.\n\
             \x20 The variable has no guard: another thread may change it, or what the block accessed before, between these lines.\n\
-            \x20 A block takes no lock after its commit, here lock ~: between these lines another thread may change what the block has read or written.\n\
+            \x20 A block takes no new lock after its commit, here lock ~: between these lines another thread may change what the block has read or written.\n\
             \x20 Locks left that may guard the variable: ~. Thread & holds none of them, so no one lock guards every access of the variable.\n",
         n,
     );

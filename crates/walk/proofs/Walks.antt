@@ -28,8 +28,8 @@ use Rattle.pass.proofs.Onward.{On, on-next}
 use Rattle.serial.specs.Order.{Point, settled}
 use Rattle.serial.specs.Walk.{unitStart, unitIn, walkFrom, walkReply, walkWords}
 
-abbrev pub pointOf : List ℕ → List ℕ → List ℕ → List ℕ → List ℕ → Point
-pointOf o d b c s = record { state = stateOf o d; judging = judgingOf b c s }
+abbrev pub pointOf : List ℕ → List ℕ → List ℕ → List ℕ → List ℕ → List ℕ → Point
+pointOf o h d b c s = record { state = stateOf o h d; judging = judgingOf b c s }
 
 settled-begin : (d b c : ℕ) → settled (phaseOf d b c) ≡ settled (phaseOf d 0 c)
 settled-begin d b c = go (eqb d 0) refl (eqb c 0) refl
@@ -39,26 +39,26 @@ settled-begin d b c = go (eqb d 0) refl (eqb c 0) refl
     go false x true y = rw (x, y)
     go false x false y = rw (x, y)
 
-pub record WalkInv (words guards out₀ out owners depths hs begins commits sets : List ℕ) (at i : ℕ) : Type 0 where
+pub record WalkInv (words guards out₀ out owners counts depths hs begins commits sets : List ℕ) (at i : ℕ) : Type 0 where
   pub within : i ≤ length words
   pub follows : Follows hs owners
-  pub judged-on : On guards words i (stateOf owners depths) (judgingOf begins commits sets) (walkReply guards words)
-  pub written : Written out₀ out at (walkWords guards words) (walkFrom guards words i (pointOf owners depths begins commits sets) (drop i words))
+  pub judged-on : On guards words i (stateOf owners counts depths) (judgingOf begins commits sets) (walkReply guards words)
+  pub written : Written out₀ out at (walkWords guards words) (walkFrom guards words i (pointOf owners counts depths begins commits sets) (drop i words))
 
 pub walk-begins : (words guards out : List ℕ)
-    → WalkInv words guards out out (replicate lockCount 0) (replicate threadCount 0) (replicate threadCount 0) (replicate threadCount 0) (replicate threadCount 0) (replicate variableCount allLocks) 0 0
+    → WalkInv words guards out out (replicate lockCount 0) (replicate lockCount 0) (replicate threadCount 0) (replicate threadCount 0) (replicate threadCount 0) (replicate threadCount 0) (replicate variableCount allLocks) 0 0
 unfolding start startJudging fullSets
 walk-begins words guards out = record { within = omega arith; follows = none-held; judged-on = record { replies = refl }; written = written-none out (walkWords guards words) }
 
-module _ {words guards out₀ out owners depths hs begins commits sets : List ℕ} {at i : ℕ} (inv : WalkInv words guards out₀ out owners depths hs begins commits sets at i) where
+module _ {words guards out₀ out owners counts depths hs begins commits sets : List ℕ} {at i : ℕ} (inv : WalkInv words guards out₀ out owners counts depths hs begins commits sets at i) where
   pub walk-done : length words ≤ i → Written out₀ out at (walkWords guards words) []
   unfolding walkFrom
   walk-done h =
-      subst (λ (l : List ℕ). Written out₀ out at (walkWords guards words) (walkFrom guards words i (pointOf owners depths begins commits sets) l))
+      subst (λ (l : List ℕ). Written out₀ out at (walkWords guards words) (walkFrom guards words i (pointOf owners counts depths begins commits sets) l))
       (drop-of-length-le words h) (inv .written)
 
   module _ (h : i < length words) where
-    stops : walkFrom guards words i (pointOf owners depths begins commits sets) (drop i words) ≡ [] → Written out₀ out at (walkWords guards words) []
+    stops : walkFrom guards words i (pointOf owners counts depths begins commits sets) (drop i words) ≡ [] → Written out₀ out at (walkWords guards words) []
     stops q = subst (λ (l : List ℕ). Written out₀ out at (walkWords guards words) l) q (inv .written)
 
     pub walk-bad : {r : Refusal} → decodeWord (getD words i 0) ≡ decoded.Bad r → Written out₀ out at (walkWords guards words) []
@@ -66,22 +66,22 @@ module _ {words guards out₀ out owners depths hs begins commits sets : List �
     walk-bad e = stops (rw (drop-cons words i 0 h, e))
 
     module _ {f : Frame} (e : decodeWord (getD words i 0) ≡ decoded.Frame f) {n : State} {k : Judging} where
-      pub walk-refused : {r : Refusal} → turned guards i f (stateOf owners depths) (judgingOf begins commits sets) ≡ turnedTo (turn.Refused r) n k → Written out₀ out at (walkWords guards words) []
+      pub walk-refused : {r : Refusal} → turned guards i f (stateOf owners counts depths) (judgingOf begins commits sets) ≡ turnedTo (turn.Refused r) n k → Written out₀ out at (walkWords guards words) []
       unfolding walkFrom
       walk-refused t = stops (rw (drop-cons words i 0 h, e, t))
 
-      pub walk-wrong : {v : Violation} → turned guards i f (stateOf owners depths) (judgingOf begins commits sets) ≡ turnedTo (turn.Wrong v) n k → Written out₀ out at (walkWords guards words) []
+      pub walk-wrong : {v : Violation} → turned guards i f (stateOf owners counts depths) (judgingOf begins commits sets) ≡ turnedTo (turn.Wrong v) n k → Written out₀ out at (walkWords guards words) []
       unfolding walkFrom
       walk-wrong t = stops (rw (drop-cons words i 0 h, e, t))
 
-      module _ (t : turned guards i f (stateOf owners depths) (judgingOf begins commits sets) ≡ turnedTo turn.Next n k) {m : Mark}
+      module _ (t : turned guards i f (stateOf owners counts depths) (judgingOf begins commits sets) ≡ turnedTo turn.Next n k) {m : Mark}
           (s : m ≡ unitStart (phaseOf (getD depths (f .thread .0) 0) (getD begins (f .thread .0) 0) (getD commits (f .thread .0) 0)) (settled (phaseOf (getD (n .depths) (f .thread .0) 0) 0 (getD (k .commits) (f .thread .0) 0))) i) where
-        here : walkFrom guards words i (pointOf owners depths begins commits sets) (drop i words)
+        here : walkFrom guards words i (pointOf owners counts depths begins commits sets) (drop i words)
             ≡ unitIn m words (f .thread) ++ walkFrom guards words (i + 1) (record { state = n; judging = k }) (drop (i + 1) words)
         unfolding walkFrom
         here =
-            let p = turn-passes guards i f (stateOf owners depths) (judgingOf begins commits sets) t in
-            rw (drop-cons words i 0 h, e, p .0, p .1, add-one i, settled-begin (getD (n .depths) (f .thread .0) 0) (getD (k .begins) (f .thread .0) 0) (getD (k .commits) (f .thread .0) 0), ← s)
+            let p = turn-passes guards i f (stateOf owners counts depths) (judgingOf begins commits sets) t in
+            rw (drop-cons words i 0 h, e, p .1, p .0 .1, add-one i, settled-begin (getD (n .depths) (f .thread .0) 0) (getD (k .begins) (f .thread .0) 0) (getD (k .commits) (f .thread .0) 0), ← s)
 
         came : Written out₀ out at (walkWords guards words) (unitIn m words (f .thread) ++ walkFrom guards words (i + 1) (record { state = n; judging = k }) (drop (i + 1) words))
         came = subst (λ (l : List ℕ). Written out₀ out at (walkWords guards words) l) here (inv .written)
@@ -91,7 +91,7 @@ module _ {words guards out₀ out owners depths hs begins commits sets : List �
           unit-room = omega (arith, room came r, length-append (unitIn m words (f .thread)) (walkFrom guards words (i + 1) (record { state = n; judging = k }) (drop (i + 1) words)))
 
           pub walk-writes : {hs′ : List ℕ} → Follows hs′ (n .owners) → {c : ℕ} {out′ : List ℕ} → c ≡ at + length (unitIn m words (f .thread)) → out′ ≡ take at out ++ (unitIn m words (f .thread) ++ drop c out)
-              → WalkInv words guards out₀ out′ (n .owners) (n .depths) hs′ (k .begins) (k .commits) (k .sets) c (i + 1)
+              → WalkInv words guards out₀ out′ (n .owners) (n .counts) (n .depths) hs′ (k .begins) (k .commits) (k .sets) c (i + 1)
           walk-writes u ec eo = record {
             within = omega arith;
             follows = u;

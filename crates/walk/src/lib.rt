@@ -24,6 +24,7 @@ pub fn write_order(words: &[u32], guards: &[u8; VARIABLES], out: &mut [u32]) -> 
     ensures contents { λ r. ⌜ now (out .exit) ≡ walkWords (now (guards .entry)) (now (words .entry)) ++ drop (length (walkWords (now (guards .entry)) (now (words .entry)))) (now (out .entry)) ⌝ }
 {
     let mut owners = [0u8; LOCKS];
+    let mut counts = [0u8; LOCKS];
     let mut depths = [0u8; THREADS];
     let mut held = [0u64; THREADS];
     let mut begins = [0u32; THREADS];
@@ -47,6 +48,7 @@ pub fn write_order(words: &[u32], guards: &[u8; VARIABLES], out: &mut [u32]) -> 
         let q = turn::judge_frame(
             guards,
             &mut owners,
+            &mut counts,
             &mut depths,
             &mut held,
             &mut begins,

@@ -6,7 +6,7 @@ use mathlib.Core.Path.{_≡_}
 use mathlib.Core.Bool.{Bool, true, false, _&&_}
 use mathlib.Core.List.{List, [], _∷_, _++_}
 use lib.Dec.{eqb}
-use lib.ListN.{length}
+use lib.ListN.{length, replicate}
 use Rattle.guards.specs.declared.Judgement.the-variants.{Declared}
 use Rattle.verdict.specs.Verdict.{verdictUnder}
 use Rattle.guards.specs.Guards.{noGuards, inferredGuards}
@@ -90,6 +90,15 @@ allHold (r ∷ rs) = holds r && allHold rs
 abbrev pub caseC : List ℕ
 caseC = 0x05000000 ∷ 0x05010000 ∷ 0x01000000 ∷ 0x04000000 ∷ 0x02000000 ∷ 0x01010000 ∷ 0x04010000 ∷ 0x06000000 ∷ 0x02010000 ∷ 0x06010000 ∷ []
 
+abbrev pub caseK : List ℕ
+caseK = 0x05000000 ∷ 0x01000000 ∷ 0x03000000 ∷ 0x01000000 ∷ 0x02000000 ∷ 0x02000000 ∷ 0x06000000 ∷ []
+
+abbrev pub caseL : List ℕ
+caseL = 0x05000000 ∷ 0x01000000 ∷ 0x01000001 ∷ 0x02000000 ∷ 0x01000001 ∷ 0x02000001 ∷ 0x02000001 ∷ 0x06000000 ∷ []
+
+abbrev pub caseM : List ℕ
+caseM = 0x01000000 ∷ 0x05000000 ∷ 0x01000000 ∷ 0x02000000 ∷ 0x01000001 ∷ 0x02000001 ∷ 0x06000000 ∷ 0x02000000 ∷ []
+
 abbrev pub rows : List Row
 rows =
     -- A: the text and the answer of docs/FORMAT.md, each line with its LF
@@ -123,6 +132,20 @@ rows =
     -- J: refusal 7 at 1; 8 at 1
     ∷ inferred (0x01000003 ∷ 0x01010003 ∷ []) (fields 0x87 1 0 absent absent 0)
     ∷ inferred (0x01000003 ∷ 0x02010003 ∷ []) (fields 0x88 1 0 absent absent 0)
+    -- K: reducible, commit 5, at the outer release
+    ∷ inferred caseK (fields 0 7 0 absent absent 0)
+    ∷ committed inferredGuards caseK (5 ∷ 5 ∷ 5 ∷ 5 ∷ 5 ∷ 5 ∷ 5 ∷ [])
+    -- L: reducible, commit 3; the acquire of lock 1 after it is an inner one
+    ∷ inferred caseL (fields 0 8 0 absent absent 0)
+    ∷ committed inferredGuards caseL (3 ∷ 3 ∷ 3 ∷ 3 ∷ 3 ∷ 3 ∷ 3 ∷ 3 ∷ [])
+    -- M: reducible, commits 0, 5 and 7; lock 0, held before the block, is let go inside it by an inner release
+    ∷ inferred caseM (fields 0 8 0 absent absent 0)
+    ∷ committed inferredGuards caseM (0 ∷ 5 ∷ 5 ∷ 5 ∷ 5 ∷ 5 ∷ 5 ∷ 7 ∷ [])
+    -- N: 15 takings pass, the 16th is refusal 20 at 15; another thread's acquire between is 7 at 3; one release too many is 8 at 4
+    ∷ inferred (replicate 15 0x01000003) (fields 0 15 0 absent absent 0)
+    ∷ inferred (replicate 16 0x01000003) (fields 0x94 15 0 absent absent 0)
+    ∷ inferred (0x01000003 ∷ 0x01000003 ∷ 0x02000003 ∷ 0x01010003 ∷ []) (fields 0x87 3 0 absent absent 0)
+    ∷ inferred (0x01000003 ∷ 0x01000003 ∷ 0x02000003 ∷ 0x02000003 ∷ 0x02000003 ∷ []) (fields 0x88 4 0 absent absent 0)
     ∷ []
 
 abbrev pub AllRowsHold : Type 0

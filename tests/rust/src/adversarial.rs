@@ -1,5 +1,5 @@
-//! Recordings and guard lists at the limits: nesting, locks, threads, candidate sets. Places and
-//! lengths of a text that is written, and the fields of a verdict line, at theirs.
+//! Recordings and guard lists at the limits: nesting, locks, locks taken again, threads, candidate
+//! sets. Places and lengths of a text that is written, and the fields of a verdict line, at theirs.
 
 use crate::random::{damage_text, Random, Recording};
 use crate::{Fields, VARIABLES};
@@ -7,6 +7,7 @@ use crate::{Fields, VARIABLES};
 pub const THREADS: u32 = 32;
 pub const LOCKS: u32 = 64;
 pub const MOST_DEPTH: usize = 15;
+pub const MOST_HOLDS: usize = 15;
 
 pub const ACQUIRE: u32 = 1;
 pub const RELEASE: u32 = 2;
@@ -93,6 +94,8 @@ struct LockWalk<'a> {
     /// The first one takes all locks at the beginning.
     threads: Vec<u32>,
     owners: Vec<Option<u32>>,
+    /// How often each lock is held.
+    holds: Vec<usize>,
     /// The guard of each variable.
     guards: Vec<u32>,
     depths: Vec<usize>,
@@ -120,12 +123,18 @@ impl LockWalk<'_> {
             }
             7..13 => {
                 let lock = self.lock_of(Some(thread))?;
-                self.owners[lock as usize] = None;
+                let hold = &mut self.holds[lock as usize];
+                *hold = hold.saturating_sub(1);
+                if *hold == 0 {
+                    self.owners[lock as usize] = None;
+                }
                 Some(word(RELEASE, thread, lock))
             }
             13..18 => {
-                let lock = self.lock_of(None)?;
+                let owner = self.random.pick(&[None, None, Some(thread)]);
+                let lock = self.lock_of(owner)?;
                 self.owners[lock as usize] = Some(thread);
+                self.holds[lock as usize] += 1;
                 Some(word(ACQUIRE, thread, lock))
             }
             18 if self.depths[number] < MOST_DEPTH => {
@@ -141,12 +150,14 @@ impl LockWalk<'_> {
     }
 }
 
-/// One thread takes all locks; then it and two others access variables, release and acquire.
+/// One thread takes all locks; then it and two others access variables, release and acquire, also
+/// locks of their own.
 pub fn lock_walk(random: &mut Random) -> Recording {
     let threads = random.names(3, THREADS);
     let mut words = all_locks(random, threads[0]);
     let mut walk = LockWalk {
         owners: vec![Some(threads[0]); LOCKS as usize],
+        holds: vec![1; LOCKS as usize],
         guards: random.names(40, LOCKS),
         depths: vec![0; 3],
         careless: random.pick(&[0, 0, 0, 2, 20, 200]),
@@ -167,6 +178,56 @@ pub fn lock_walk(random: &mut Random) -> Recording {
     }
 }
 
+// Locks taken again.
+
+/// Some threads take a few locks and take them again, up to the limit, let them go, access a
+/// variable of each lock, begin and end blocks. In some recordings a few frames are not sound.
+pub fn hold_walk(random: &mut Random) -> Recording {
+    let threads = random.pick(&[1, 2, 3]);
+    let threads = random.names(threads, THREADS);
+    let locks = random.pick(&[1, 2, 3]);
+    let locks = random.names(locks, LOCKS);
+    let mut owners = vec![threads[0]; locks.len()];
+    let mut holds = vec![0; locks.len()];
+    let mut depths = vec![0; threads.len()];
+    let up = random.pick(&[400, 550, 700, 900]);
+    let beyond = random.pick(&[0, 0, 10, 100]);
+    let mut words = Vec::new();
+    for _ in 0..random.below(200) {
+        let number = random.below(threads.len());
+        let (thread, depth) = (threads[number], &mut depths[number]);
+        let place = random.below(locks.len());
+        let (lock, hold, owner) = (locks[place], &mut holds[place], &mut owners[place]);
+        let own = *hold > 0 && *owner == thread;
+        let (operation, sound) = match random.below(20) {
+            0..4 if own => {
+                words.push(access(random, thread, place as u32));
+                continue;
+            }
+            4 | 5 => (BEGIN, *depth < MOST_DEPTH),
+            6 | 7 => (END, *depth > 0),
+            _ if random.chance(up) => (ACQUIRE, *hold == 0 || own && *hold < MOST_HOLDS),
+            _ => (RELEASE, own),
+        };
+        let object = if operation < BEGIN { lock } else { 0 };
+        if sound || random.chance(beyond) {
+            words.push(word(operation, thread, object));
+        }
+        match operation {
+            _ if !sound => {}
+            ACQUIRE => (*hold, *owner) = (*hold + 1, thread),
+            RELEASE => *hold -= 1,
+            BEGIN => *depth += 1,
+            _ => *depth -= 1,
+        }
+    }
+    let guards = (0..).zip(locks.iter().map(|&lock| Some(lock)));
+    Recording {
+        words,
+        guards: guards.collect(),
+    }
+}
+
 // Threads.
 
 /// The variables that one thread accesses under its lock, in a strict alternation.
@@ -176,7 +237,8 @@ const FIRST_UNPROTECTED: u32 = THREADS * OWN_VARIABLES;
 pub const LEAST_STEPS: usize = 8;
 
 /// A block of `steps` frames under two locks of the thread's own that commits at a given step: by
-/// a release, or by an access of a variable without a guard.
+/// a release, or by an access of a variable without a guard. Where there are steps enough some
+/// accesses give way to an inner acquire and its release, before the commit, after it or around it.
 fn block(random: &mut Random, thread: u32, steps: usize, commit: usize) -> Vec<u32> {
     let mut own_access = |_| {
         let variable = OWN_VARIABLES * thread + random.below(OWN_VARIABLES as usize) as u32;
@@ -186,6 +248,12 @@ fn block(random: &mut Random, thread: u32, steps: usize, commit: usize) -> Vec<u
     frames[0] = word(BEGIN, thread, 0);
     frames[1] = word(ACQUIRE, thread, thread);
     frames[2] = word(ACQUIRE, thread, THREADS + thread);
+    let mut inner = [0; 2].map(|_| random.between(3, steps - 4));
+    inner.sort_unstable();
+    if random.chance(600) && inner[0] < inner[1] && !inner.contains(&commit) {
+        frames[inner[0]] = word(ACQUIRE, thread, thread);
+        frames[inner[1]] = word(RELEASE, thread, thread);
+    }
     frames[steps - 2] = word(RELEASE, thread, thread);
     frames[steps - 1] = word(END, thread, 0);
     if random.chance(500) {
@@ -247,7 +315,8 @@ pub fn every_variable(random: &mut Random) -> Vec<u32> {
 
 /// One thread takes all locks and releases one after another, with accesses of a variable and of
 /// its neighbour between; `left` locks of the variable's candidate set are still held at the last
-/// access. A lock that is taken again is not in the set any more.
+/// access. A lock that is taken again after its release is not in the set any more; one that is
+/// taken again before stays in it.
 pub fn shrinking(random: &mut Random, variable: u32, left: usize) -> Vec<u32> {
     let thread = random.below(THREADS as usize) as u32;
     let mut held = random.names(LOCKS as usize, LOCKS);
@@ -255,6 +324,12 @@ pub fn shrinking(random: &mut Random, variable: u32, left: usize) -> Vec<u32> {
     words.push(access(random, thread, variable));
     while held.len() > left {
         let lock = held.swap_remove(random.below(held.len()));
+        if random.chance(200) {
+            words.push(word(ACQUIRE, thread, lock));
+            words.push(access(random, thread, variable));
+            words.push(word(RELEASE, thread, lock));
+            words.push(access(random, thread, variable));
+        }
         words.push(word(RELEASE, thread, lock));
         for _ in 0..random.pick(&[1, 1, 2, 3]) {
             words.push(access(random, thread, variable));
@@ -269,8 +344,8 @@ pub fn shrinking(random: &mut Random, variable: u32, left: usize) -> Vec<u32> {
     words
 }
 
-/// Threads in turn take some locks, access variables and release the locks; each turn keeps most of
-/// the locks of the turn before.
+/// Threads in turn take some locks, some of them more than once, access variables and release the
+/// locks; each turn keeps most of the locks of the turn before.
 pub fn turns(random: &mut Random) -> Vec<u32> {
     let variables = random.names(2, VARIABLES as u32);
     let mut locks = random.names(LOCKS as usize, LOCKS);
@@ -280,15 +355,20 @@ pub fn turns(random: &mut Random) -> Vec<u32> {
         let (begin, end) = (word(BEGIN, thread, 0), word(END, thread, 0));
         let in_block = random.chance(500);
         words.extend(in_block.then_some(begin));
-        random.shuffle(&mut locks);
-        words.extend(acquires(thread, &locks));
+        let mut taken = locks.clone();
+        for _ in 0..random.pick(&[0, 0, 1, 3]) {
+            taken.push(random.pick(&locks));
+        }
+        random.shuffle(&mut taken);
+        words.extend(acquires(thread, &taken));
         for _ in 0..random.between(1, 4) {
             let variable = random.pick(&variables);
             words.push(access(random, thread, variable));
         }
-        random.shuffle(&mut locks);
-        words.extend(locks.iter().map(|&lock| word(RELEASE, thread, lock)));
+        random.shuffle(&mut taken);
+        words.extend(taken.iter().map(|&lock| word(RELEASE, thread, lock)));
         words.extend(in_block.then_some(end));
+        random.shuffle(&mut locks);
         locks.truncate(random.between(1, locks.len()));
         let other = random.below(LOCKS as usize) as u32;
         if random.chance(300) && !locks.contains(&other) {
@@ -356,7 +436,7 @@ pub fn random_room(random: &mut Random, bytes: usize) -> (usize, usize) {
 
 /// Kinds on both sides of each boundary.
 pub const EDGE_KINDS: [u8; 14] = [
-    0x00, 0x01, 0x02, 0x03, 0x04, 0x05, 0x7F, 0x80, 0x81, 0x91, 0x93, 0x94, 0xFE, 0xFF,
+    0x00, 0x01, 0x02, 0x03, 0x04, 0x05, 0x7F, 0x80, 0x81, 0x91, 0x94, 0x95, 0xFE, 0xFF,
 ];
 pub const EDGE_PLACES: [u16; 7] = [0, 1, 0x0FFF, 0x1000, 0x1001, 0xFFFE, 0xFFFF];
 pub const EDGE_LOCKS: [u64; 6] = [0, 1, 6, 1 << 63, u64::MAX - 1, u64::MAX];
@@ -371,7 +451,7 @@ pub fn random_fields(random: &mut Random) -> Fields {
         kind: match random.below(4) {
             0 => random.pick(&EDGE_KINDS),
             1 => random.draw() as u8,
-            2 => random.between(0x81, 0x93) as u8,
+            2 => random.between(0x81, 0x94) as u8,
             _ => random.between(0x00, 0x04) as u8,
         },
         frame: place(random),

@@ -1,8 +1,9 @@
 //! A case: one call of the library with its input and lent buffers. Implementations of the calls
 //! are compared on the reply and on the whole content of every buffer.
 
+use crate::holds::{has_inner_pair, shown, SHOWN};
 use crate::random::Random;
-use crate::{Fields, FieldsOut, ABSENT, LINE_BYTES, VARIABLES};
+use crate::{Fields, FieldsOut, Refusal, ABSENT, LINE_BYTES, VARIABLES};
 use std::fmt;
 
 /// Elements on both sides of each buffer, which no call may touch.
@@ -87,15 +88,15 @@ const NAMES: [&str; CALLS.len()] = [
 /// Kinds and refusals that can occur, per call. Kind 0 of read, guards and line read: accepted; of
 /// equal: not equal, and 1: equal; of the serial orders, write and line write: written.
 const POSSIBLE: [(&[usize], &[usize]); CALLS.len()] = [
-    (&[0, 3, 4], &[1, 2, 4, 5, 6, 7, 8, 9, 10, 17]),
+    (&[0, 3, 4], &[1, 2, 4, 5, 6, 7, 8, 9, 10, 17, 20]),
     (&[0], &[1, 2, 3]),
     (&[0], &[1, 11, 12]),
-    (&[0, 1, 2, 3], &[1, 2, 4, 5, 6, 7, 8, 9, 10, 11, 12, 17]),
-    (&[0, 3, 4], &[2, 4, 5, 6, 7, 8, 9, 10, 16, 17]),
-    (&[0, 1], &[2, 4, 5, 6, 7, 8, 9, 10]),
-    (&[0], &[1, 2, 4, 5, 6, 7, 8, 9, 10, 11, 12, 13, 14, 15]),
-    (&[0], &[2, 4, 5, 6, 7, 8, 9, 10, 13, 14, 15]),
-    (&[0], &[2, 4, 5, 6, 7, 8, 9, 10, 19]),
+    (&[0, 1, 2, 3], &[1, 2, 4, 5, 6, 7, 8, 9, 10, 11, 12, 17, 20]),
+    (&[0, 3, 4], &[2, 4, 5, 6, 7, 8, 9, 10, 16, 17, 20]),
+    (&[0, 1], &[2, 4, 5, 6, 7, 8, 9, 10, 20]),
+    (&[0], &[1, 2, 4, 5, 6, 7, 8, 9, 10, 11, 12, 13, 14, 15, 20]),
+    (&[0], &[2, 4, 5, 6, 7, 8, 9, 10, 13, 14, 15, 20]),
+    (&[0], &[2, 4, 5, 6, 7, 8, 9, 10, 19, 20]),
     (&[0], &[18]),
     (&[0], &[17, 18]),
 ];
@@ -107,6 +108,16 @@ impl Call {
 
     pub fn possible_kinds(self) -> &'static [usize] {
         POSSIBLE[self as usize].0
+    }
+
+    /// What a kind is of this call, which checks a recording.
+    pub fn answer(self, kind: usize) -> &'static str {
+        match (self, kind) {
+            (Call::Equal, 0) => "not equal",
+            (Call::Equal, _) => "equal",
+            _ if !self.replies_kind() => "written",
+            _ => ["reducible", "kind 1", "kind 2", "kind 3", "kind 4"][kind],
+        }
     }
 
     /// Those of equal can occur on either side.
@@ -121,6 +132,11 @@ impl Call {
     /// The reply is the kind of a verdict line.
     pub fn replies_kind(self) -> bool {
         matches!(self, Call::Check | Call::Declared | Call::Inferred)
+    }
+
+    /// A recording is checked, and so its locks.
+    pub fn checks_recording(self) -> bool {
+        self.possible_refusals().contains(&20)
     }
 
     fn writes_line(self) -> bool {
@@ -434,6 +450,16 @@ impl Outcome {
         &self.words[MARGIN..][..self.reply as usize]
     }
 
+    /// The place of a violation or of a refusal.
+    fn place(&self, call: Call) -> usize {
+        if !call.replies_kind() {
+            return self.reply as u32 as usize;
+        }
+        let line = self.line[MARGIN..].get(..LINE_BYTES);
+        let fields = line.and_then(Fields::of_line);
+        fields.map_or(0, |fields| fields.frame.into())
+    }
+
     /// The text that was written from this place on; there was no refusal.
     fn written_text(&self, place: usize) -> &[u8] {
         &self.text[MARGIN + place..][..self.reply as usize]
@@ -502,9 +528,14 @@ pub struct Tally {
     pub cases: usize,
     /// As in `possible_kinds`.
     pub kinds: [usize; 5],
-    pub refusals: [usize; 20],
+    pub refusals: [usize; 21],
     /// Refusals of the right recording.
-    pub right_refusals: [usize; 20],
+    pub right_refusals: [usize; 21],
+    /// Of `kinds`, recordings with an inner acquire and its release, before the violation if there
+    /// is one.
+    pub inner: [usize; 5],
+    /// As in `SHOWN`.
+    pub shown: [usize; SHOWN.len()],
     /// Violations of kind 1 or 4 with begin absent, begin alone, begin and commit.
     pub shapes: [usize; 3],
     /// Equal recordings in another order, unequal ones of one length, serial orders that are not
@@ -539,6 +570,9 @@ impl Tally {
         if refusal == 0 {
             self.count_accepted(case, outcome, kind);
         }
+        if call.checks_recording() && refusal < 256 {
+            self.count_holds(case, outcome, kind, refusal);
+        }
         let texts = text_edges(case, outcome, refusal);
         let met = texts.into_iter().chain(line_edges(case, outcome, refusal));
         for (count, met) in self.edges.iter_mut().zip(met) {
@@ -564,6 +598,31 @@ impl Tally {
         }
     }
 
+    /// The locks of the left recording. Equality and writing do not say whether it is reducible.
+    fn count_holds(&mut self, case: &Case, outcome: &Outcome, kind: usize, number: usize) {
+        let (call, place) = (case.call, outcome.place(case.call));
+        let words = match call {
+            Call::Check => crate::read_text(&case.text).unwrap_or_default(),
+            _ => case.frames.clone(),
+        };
+        let reply = match number {
+            0 => Ok(kind == 0 && (call.replies_kind() || call.is_serial())),
+            7 | 8 | 20 => Err(Refusal {
+                number: number as u8,
+                place,
+            }),
+            _ => return,
+        };
+        if reply.is_ok() {
+            let violation = call.replies_kind() && kind > 0;
+            let before = if violation { place } else { words.len() };
+            self.inner[kind] += usize::from(has_inner_pair(&words, before));
+        }
+        for (count, met) in self.shown.iter_mut().zip(shown(&words, reply)) {
+            *count += usize::from(met);
+        }
+    }
+
     /// Adds the counts of another tally.
     pub fn add(&mut self, other: &Tally) {
         let add = |to: &mut [usize], from: &[usize]| {
@@ -572,6 +631,8 @@ impl Tally {
         add(&mut self.kinds, &other.kinds);
         add(&mut self.refusals, &other.refusals);
         add(&mut self.right_refusals, &other.right_refusals);
+        add(&mut self.inner, &other.inner);
+        add(&mut self.shown, &other.shown);
         add(&mut self.shapes, &other.shapes);
         add(&mut self.moved, &other.moved);
         add(&mut self.edges, &other.edges);
@@ -597,7 +658,7 @@ fn text_edges(case: &Case, outcome: &Outcome, refusal: usize) -> [bool; 10] {
         written && bytes == 0 && room == Some(0),
         refused && bytes == 0 && place == case.text_len + 1,
         refused && place > FAR,
-        of_write && (2..=10).contains(&refusal) && room < Some(bytes),
+        of_write && ![0, 19].contains(&refusal) && room < Some(bytes),
         written && bytes > 0 && outcome.comes_back,
         case.call == Call::Read && !case.text.is_empty() && outcome.comes_back,
     ]

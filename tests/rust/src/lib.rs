@@ -4,6 +4,7 @@ use std::collections::{BTreeMap, BTreeSet, VecDeque};
 
 pub mod adversarial;
 pub mod case;
+pub mod holds;
 pub mod plain;
 pub mod random;
 pub mod random_case;
@@ -17,6 +18,7 @@ const MOST_THREAD: u8 = 31;
 const MOST_LOCK: u16 = 63;
 const MOST_VARIABLE: u16 = 1023;
 const MOST_DEPTH: u32 = 15;
+const MOST_HOLDS: u32 = 15;
 const ABSENT: u16 = 0xFFFF;
 /// Added to the number of a refusal of the right recording.
 const RIGHT_SIDE: u64 = 256;
@@ -95,6 +97,10 @@ pub fn read_guards(list: &[u8]) -> Result<BTreeMap<u16, u16>, Refusal> {
 enum Action {
     Acquire(u16),
     Release(u16),
+    /// Of a lock that its thread holds before.
+    InnerAcquire(u16),
+    /// Of a lock that its thread still holds after.
+    InnerRelease(u16),
     Access(u16),
     Begin,
     End,
@@ -106,7 +112,7 @@ pub struct Frame {
     action: Action,
 }
 
-/// The frame, or the number of its refusal: 4, 5 or 6.
+/// The frame, or the number of its refusal: 4, 5 or 6. Alone no frame is inner.
 fn frame_of_word(word: u32) -> Result<Frame, u8> {
     let (operation, thread, object) = ((word >> 24) as u8, (word >> 16) as u8, word as u16);
     let (action, most) = match operation {
@@ -126,34 +132,49 @@ fn frame_of_word(word: u32) -> Result<Frame, u8> {
     Ok(Frame { thread, action })
 }
 
-/// The frames of a sound recording. Refusals 2 and 4 to 10.
+/// A lock that is held: by whom, and how often.
+struct Hold {
+    owner: u8,
+    count: u32,
+}
+
+/// The frames of a sound recording, the inner ones told apart. Refusals 2, 4 to 10 and 20.
 pub fn check_recording(words: &[u32]) -> Result<Vec<Frame>, Refusal> {
     if words.len() > MOST_FRAMES {
         return refuse(2, MOST_FRAMES);
     }
     let mut frames = Vec::new();
-    let mut holders: BTreeMap<u16, u8> = BTreeMap::new();
+    let mut holds: BTreeMap<u16, Hold> = BTreeMap::new();
     let mut depths: BTreeMap<u8, u32> = BTreeMap::new();
     for (place, &word) in words.iter().enumerate() {
-        let frame = match frame_of_word(word) {
+        let mut frame = match frame_of_word(word) {
             Ok(frame) => frame,
             Err(number) => return refuse(number, place),
         };
         let depth = depths.entry(frame.thread).or_insert(0);
         match frame.action {
-            Action::Acquire(lock) => {
-                if holders.contains_key(&lock) {
-                    return refuse(7, place);
+            Action::Acquire(lock) => match holds.get_mut(&lock) {
+                None => {
+                    let owner = frame.thread;
+                    holds.insert(lock, Hold { owner, count: 1 });
                 }
-                holders.insert(lock, frame.thread);
-            }
-            Action::Release(lock) => {
-                if holders.get(&lock) != Some(&frame.thread) {
-                    return refuse(8, place);
+                Some(hold) if hold.owner != frame.thread => return refuse(7, place),
+                Some(hold) if hold.count == MOST_HOLDS => return refuse(20, place),
+                Some(hold) => {
+                    hold.count += 1;
+                    frame.action = Action::InnerAcquire(lock);
                 }
-                holders.remove(&lock);
-            }
-            Action::Access(_) => {}
+            },
+            Action::Release(lock) => match holds.get_mut(&lock) {
+                Some(hold) if hold.owner == frame.thread && hold.count > 1 => {
+                    hold.count -= 1;
+                    frame.action = Action::InnerRelease(lock);
+                }
+                Some(hold) if hold.owner == frame.thread => {
+                    holds.remove(&lock);
+                }
+                _ => return refuse(8, place),
+            },
             Action::Begin => {
                 if *depth == MOST_DEPTH {
                     return refuse(9, place);
@@ -166,6 +187,7 @@ pub fn check_recording(words: &[u32]) -> Result<Vec<Frame>, Refusal> {
                 }
                 *depth -= 1;
             }
+            _ => {}
         }
         frames.push(frame);
     }
@@ -271,6 +293,7 @@ fn judge(frames: &[Frame], guards: &mut Guards) -> Verdict {
                 thread.held.remove(&lock);
                 thread.commit_at(place);
             }
+            Action::InnerAcquire(_) | Action::InnerRelease(_) => {}
             Action::Access(variable) => wrong = guards.access(thread, variable, place),
             Action::Begin => match &mut thread.block {
                 Some(block) => block.depth += 1,
@@ -333,6 +356,7 @@ enum Item {
 fn items(frame: Frame) -> impl Iterator<Item = Item> {
     let touched = match frame.action {
         Action::Acquire(lock) | Action::Release(lock) => Some(Item::Lock(lock)),
+        Action::InnerAcquire(lock) | Action::InnerRelease(lock) => Some(Item::Lock(lock)),
         Action::Access(variable) => Some(Item::Variable(variable)),
         Action::Begin | Action::End => None,
     };
@@ -420,6 +444,7 @@ fn serial_places(
             Action::End => (depth - 1, false),
             Action::Acquire(_) => (depth, false),
             Action::Release(_) => (depth, true),
+            Action::InnerAcquire(_) | Action::InnerRelease(_) => (depth, false),
             Action::Access(variable) => (depth, unprotected(variable)),
         };
         // The end of a block and a single frame commit what did not commit before.

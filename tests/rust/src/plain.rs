@@ -9,6 +9,7 @@ const MOST_FRAMES: usize = 4096;
 const VARIABLES: usize = 1024;
 const LOCKS: usize = 64;
 const THREADS: usize = 32;
+const MOST_HOLDS: u8 = 15;
 const LINE_BYTES: usize = 33;
 const TEXT_LINE: usize = 9;
 const ABSENT: u16 = 0xFFFF;
@@ -95,8 +96,9 @@ fn read_text<'a>(text: &[u8], words: &'a mut [u32; MOST_FRAMES]) -> Result<&'a [
 }
 
 fn check_sound(words: &[u32]) -> Result<(), Refusal> {
-    let mut taken = 0u64;
-    let mut held = [0u64; THREADS];
+    // The thread that took each lock last, and how often it holds it.
+    let mut owners = [0u8; LOCKS];
+    let mut holds = [0u8; LOCKS];
     let mut depths = [0u8; THREADS];
     for (place, &word) in words.iter().enumerate() {
         let operation = (word >> 24) as usize;
@@ -111,21 +113,23 @@ fn check_sound(words: &[u32]) -> Result<(), Refusal> {
         if object > MOST_OBJECT[operation] {
             return refuse(6, place);
         }
-        let lock = 1 << (object & 63);
+        let lock = usize::from(object & 63);
         match operation {
             1 => {
-                if taken & lock != 0 {
+                if holds[lock] == 0 {
+                    owners[lock] = thread as u8;
+                } else if owners[lock] != thread as u8 {
                     return refuse(7, place);
+                } else if holds[lock] == MOST_HOLDS {
+                    return refuse(20, place);
                 }
-                taken |= lock;
-                held[thread] |= lock;
+                holds[lock] += 1;
             }
             2 => {
-                if held[thread] & lock == 0 {
+                if holds[lock] == 0 || owners[lock] != thread as u8 {
                     return refuse(8, place);
                 }
-                taken &= !lock;
-                held[thread] &= !lock;
+                holds[lock] -= 1;
             }
             5 => {
                 if depths[thread] == 15 {
@@ -166,11 +170,12 @@ impl Thread {
 fn judge(words: &[u32]) -> Reply {
     let mut sets = [u64::MAX; VARIABLES];
     let mut threads = [Thread::START; THREADS];
+    let mut holds = [0u8; LOCKS];
     for (place, &word) in words.iter().enumerate() {
         let place = place as u16;
         let number = (word >> 16 & 31) as u8;
         let thread = &mut threads[usize::from(number)];
-        let lock = 1 << (word & 63);
+        let lock = (word & 63) as usize;
         let violation = |thread: &Thread, kind, locks| Reply {
             kind,
             frame: place,
@@ -181,15 +186,21 @@ fn judge(words: &[u32]) -> Reply {
         };
         match word >> 24 {
             1 => {
-                if thread.commit != ABSENT {
-                    return violation(thread, 3, lock);
+                if holds[lock] == 0 {
+                    if thread.commit != ABSENT {
+                        return violation(thread, 3, 1 << lock);
+                    }
+                    thread.held |= 1 << lock;
                 }
-                thread.held |= lock;
+                holds[lock] += 1;
             }
             2 => {
-                thread.held &= !lock;
-                if thread.depth > 0 && thread.commit == ABSENT {
-                    thread.commit = place;
+                holds[lock] -= 1;
+                if holds[lock] == 0 {
+                    thread.held &= !(1 << lock);
+                    if thread.depth > 0 && thread.commit == ABSENT {
+                        thread.commit = place;
+                    }
                 }
             }
             3 | 4 => {
@@ -346,6 +357,7 @@ fn write_serial(
     mut access: impl FnMut(&Thread, usize) -> Access,
 ) -> Result<usize, Refusal> {
     let mut threads = [Thread::START; THREADS];
+    let mut holds = [0u8; LOCKS];
     let mut last = [0u16; THREADS];
     // The first place of the unit that commits here, and the next place of the same unit.
     let mut first = [ABSENT; MOST_FRAMES];
@@ -354,14 +366,24 @@ fn write_serial(
         let number = (word >> 16 & 31) as usize;
         let thread = &mut threads[number];
         let operation = word >> 24;
-        let lock = 1 << (word & 63);
+        let lock = (word & 63) as usize;
         let mut commits = false;
         match operation {
-            1 if thread.commit != ABSENT => return refuse(13, place),
-            1 => thread.held |= lock,
+            1 => {
+                if holds[lock] == 0 {
+                    if thread.commit != ABSENT {
+                        return refuse(13, place);
+                    }
+                    thread.held |= 1 << lock;
+                }
+                holds[lock] += 1;
+            }
             2 => {
-                thread.held &= !lock;
-                commits = true;
+                holds[lock] -= 1;
+                if holds[lock] == 0 {
+                    thread.held &= !(1 << lock);
+                    commits = true;
+                }
             }
             3 | 4 => match access(thread, (word & 1023) as usize) {
                 Access::Free => {}

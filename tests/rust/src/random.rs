@@ -1,6 +1,6 @@
 //! Seeded random recordings, exchanges of their frames, guard lists and damaged texts.
 
-use crate::independent;
+use crate::{independent, MOST_HOLDS};
 
 /// splitmix64.
 #[derive(Clone)]
@@ -59,8 +59,10 @@ pub struct Plan {
     pub locks: usize,
     pub variables: usize,
     pub frames: usize,
-    /// Weight of begin; the other weights are fixed.
+    /// Weight of begin; the other weights but the next are fixed.
     pub nesting: usize,
+    /// Weight of inner acquires, and of inner releases.
+    pub inner: usize,
     /// Share of variables without a guard.
     pub unprotected: usize,
     /// Share of frames that need not follow the rules of the verdict.
@@ -87,12 +89,14 @@ struct Maker<'a> {
     threads: Vec<Thread>,
     thread_names: Vec<u32>,
     lock_names: Vec<u32>,
-    taken: Vec<bool>,
+    /// How often each lock is held.
+    holds: Vec<u32>,
     variable_names: Vec<u32>,
     guards: Vec<Option<usize>>,
     /// The variables that each lock guards.
     guarded: Vec<Vec<usize>>,
     nesting: usize,
+    inner: usize,
 }
 
 impl Maker<'_> {
@@ -100,10 +104,11 @@ impl Maker<'_> {
         operation << 24 | self.thread_names[thread] << 16 | object
     }
 
-    /// A sound frame if one is found at random; `careful` also asks for the rules of the verdict.
-    fn step(&mut self, careful: bool) -> Option<u32> {
+    /// A sound frame if one is found at random, and how often in a row; `careful` also asks for the
+    /// rules of the verdict.
+    fn step(&mut self, careful: bool) -> Option<(u32, usize)> {
         let number = self.random.below(self.threads.len());
-        let weights = [3, 2, 6, self.nesting, 2];
+        let weights = [3, 2, 6, self.nesting, 2, self.inner, self.inner];
         let mut at = self.random.below(weights.iter().sum());
         let mut choice = 0;
         while at >= weights[choice] {
@@ -113,24 +118,26 @@ impl Maker<'_> {
         let thread = &mut self.threads[number];
         match choice {
             0 => {
-                let lock = self.random.below(self.taken.len());
-                if self.taken[lock] || careful && thread.committed {
+                let lock = self.random.below(self.holds.len());
+                if self.holds[lock] > 0 || careful && thread.committed {
                     return None;
                 }
-                self.taken[lock] = true;
+                self.holds[lock] = 1;
                 thread.held.push(lock);
-                Some(self.word(1, number, self.lock_names[lock]))
+                Some((self.word(1, number, self.lock_names[lock]), 1))
             }
             1 => {
                 if thread.held.is_empty() {
                     return None;
                 }
-                let lock = thread
-                    .held
-                    .swap_remove(self.random.below(thread.held.len()));
-                self.taken[lock] = false;
-                thread.committed = thread.depth > 0;
-                Some(self.word(2, number, self.lock_names[lock]))
+                let place = self.random.below(thread.held.len());
+                let lock = thread.held[place];
+                self.holds[lock] -= 1;
+                if self.holds[lock] == 0 {
+                    thread.held.swap_remove(place);
+                    thread.committed = thread.depth > 0;
+                }
+                Some((self.word(2, number, self.lock_names[lock]), 1))
             }
             2 => {
                 let mut variable = self.random.below(self.guards.len());
@@ -150,19 +157,56 @@ impl Maker<'_> {
                 }
                 thread.committed |= self.guards[variable].is_none() && thread.depth > 0;
                 let operation = 3 + self.random.below(2) as u32;
-                Some(self.word(operation, number, self.variable_names[variable]))
+                let word = self.word(operation, number, self.variable_names[variable]);
+                Some((word, 1))
             }
             3 if thread.depth < 15 => {
                 thread.depth += 1;
-                Some(self.word(5, number, 0))
+                Some((self.word(5, number, 0), 1))
             }
             4 if thread.depth > 0 => {
                 thread.depth -= 1;
                 thread.committed &= thread.depth > 0;
-                Some(self.word(6, number, 0))
+                Some((self.word(6, number, 0), 1))
+            }
+            5 | 6 if !thread.held.is_empty() => {
+                let lock = self.random.pick(&thread.held);
+                Some(self.inner_step(number, lock, choice == 5))
             }
             _ => None,
         }
+    }
+
+    /// Inner acquires of a lock, or inner releases: one in most cases, or up to all that there can
+    /// be.
+    fn inner_step(&mut self, thread: usize, lock: usize, acquires: bool) -> (u32, usize) {
+        let hold = self.holds[lock];
+        let (operation, most) = match acquires {
+            true => (1, MOST_HOLDS - hold),
+            false => (2, hold - 1),
+        };
+        let times = match self.random.below(8) {
+            0 => most as usize,
+            1 => self.random.between(0, most as usize),
+            _ => most.min(1) as usize,
+        };
+        self.holds[lock] = match acquires {
+            true => hold + times as u32,
+            false => hold - times as u32,
+        };
+        (self.word(operation, thread, self.lock_names[lock]), times)
+    }
+
+    /// A word that need not be sound, and how often in a row.
+    fn wild_words(&mut self) -> (u32, usize) {
+        let thread = self.random.below(self.threads.len());
+        let held = &self.threads[thread].held;
+        if !held.is_empty() && self.random.chance(150) {
+            let lock = self.random.pick(held);
+            let times = MOST_HOLDS - self.holds[lock] + 1;
+            return (self.word(1, thread, self.lock_names[lock]), times as usize);
+        }
+        (self.wild_word(), 1)
     }
 
     fn wild_word(&mut self) -> u32 {
@@ -205,22 +249,27 @@ pub fn recording(random: &mut Random, plan: &Plan) -> Recording {
         threads: vec![Thread::default(); plan.threads],
         thread_names: random.names(plan.threads, 32),
         lock_names: random.names(plan.locks, 64),
-        taken: vec![false; plan.locks],
+        holds: vec![0; plan.locks],
         variable_names: random.names(plan.variables, 1024),
         guards,
         guarded,
         nesting: plan.nesting,
+        inner: plan.inner,
         random,
     };
     let mut words = Vec::with_capacity(plan.frames);
     while words.len() < plan.frames {
-        if maker.random.chance(plan.wild) {
-            words.push(maker.wild_word());
+        let made = if maker.random.chance(plan.wild) {
+            Some(maker.wild_words())
         } else {
             let careful = !maker.random.chance(plan.careless);
-            words.extend(maker.step(careful));
+            maker.step(careful)
+        };
+        if let Some((word, times)) = made {
+            words.resize(words.len() + times, word);
         }
     }
+    words.truncate(plan.frames);
     let named = maker.variable_names.iter().zip(&maker.guards);
     let guards = named
         .map(|(&variable, guard)| (variable, guard.map(|lock| maker.lock_names[lock])))
@@ -257,6 +306,7 @@ fn unit_under_locks(random: &mut Random, thread: u32, locks: usize, unprotected:
             frames.push(access(random, &held));
         }
     }
+    add_inner_pairs(random, &mut frames);
     if random.chance(800) {
         for _ in 0..random.pick(&[0, 0, 0, 1, 2]) {
             let begin = random.between(0, frames.len());
@@ -264,23 +314,58 @@ fn unit_under_locks(random: &mut Random, thread: u32, locks: usize, unprotected:
             frames.insert(end, word(6, 0));
             frames.insert(begin, word(5, 0));
         }
-        frames.insert(0, word(5, 0));
-        frames.push(word(6, 0));
+        // Some blocks begin with locks held, or end so.
+        let (mut begin, mut end) = (0, frames.len());
+        if random.chance(300) {
+            begin = random.between(0, end);
+            end = random.between(begin, end);
+        }
+        frames.insert(end, word(6, 0));
+        frames.insert(begin, word(5, 0));
     }
     frames
+}
+
+/// Adds inner acquires and their releases to frames that take each lock once and let it go: a few,
+/// or as many of one lock as it can be held.
+fn add_inner_pairs(random: &mut Random, frames: &mut Vec<u32>) {
+    let acquires = frames.iter().filter(|&word| word >> 24 == 1);
+    let acquires: Vec<u32> = acquires.copied().collect();
+    if acquires.is_empty() {
+        return;
+    }
+    let mut pairs: Vec<u32> = (0..random.pick(&[0, 0, 1, 1, 2, 3]))
+        .map(|_| random.pick(&acquires))
+        .collect();
+    if random.chance(50) {
+        pairs = vec![acquires[0]; MOST_HOLDS as usize - 1];
+    }
+    for acquire in pairs {
+        let release = acquire + (1 << 24);
+        let first = frames.iter().position(|&word| word == acquire);
+        let last = frames.iter().rposition(|&word| word == release);
+        if let (Some(first), Some(last)) = (first, last) {
+            let begin = random.between(first + 1, last);
+            let end = random.between(begin, last);
+            frames.insert(end, release);
+            frames.insert(begin, acquire);
+        }
+    }
 }
 
 /// The frames of several threads interleaved at random. An acquire waits for its lock; where all
 /// wait, the rest is left out.
 fn schedule(random: &mut Random, threads: &[Vec<u32>]) -> Vec<u32> {
-    let mut taken = 0u64;
+    // Who took each lock last, and how often it is held.
+    let (mut owners, mut holds) = ([0; 64], [0usize; 64]);
     let mut words = Vec::new();
     let mut done = vec![0; threads.len()];
     loop {
         let ready: Vec<usize> = (0..threads.len())
             .filter(|&thread| {
                 let next = threads[thread].get(done[thread]);
-                next.is_some_and(|word| word >> 24 != 1 || taken >> (word & 63) & 1 == 0)
+                let free = |lock: usize| holds[lock] == 0 || owners[lock] == thread;
+                next.is_some_and(|word| word >> 24 != 1 || free((word & 63) as usize))
             })
             .collect();
         if ready.is_empty() {
@@ -288,8 +373,11 @@ fn schedule(random: &mut Random, threads: &[Vec<u32>]) -> Vec<u32> {
         }
         let thread = random.pick(&ready);
         let word = threads[thread][done[thread]];
-        if matches!(word >> 24, 1 | 2) {
-            taken ^= 1 << (word & 63);
+        let lock = (word & 63) as usize;
+        match word >> 24 {
+            1 => (owners[lock], holds[lock]) = (thread, holds[lock] + 1),
+            2 => holds[lock] = holds[lock].saturating_sub(1),
+            _ => {}
         }
         words.push(word);
         done[thread] += 1;
@@ -305,6 +393,31 @@ pub fn reschedule(random: &mut Random, words: &[u32]) -> Vec<u32> {
     }
     threads.retain(|frames| !frames.is_empty());
     schedule(random, &threads)
+}
+
+/// At most eight frames: one thread takes a lock again and lets it go, another does something else.
+pub fn taken_again(random: &mut Random) -> Vec<u32> {
+    let threads = random.names(2, 4);
+    let word = |thread: usize, (operation, object): (u32, u32)| {
+        operation << 24 | threads[thread] << 16 | object
+    };
+    let again = [(1, 0), (1, 0), (2, 0), (2, 0)];
+    let mut words: Vec<u32> = again.iter().map(|&frame| word(0, frame)).collect();
+    if random.chance(500) {
+        let read = word(0, (3, random.below(2) as u32));
+        words.insert(random.between(0, 4), read);
+    }
+    let other: [&[(u32, u32)]; 6] = [
+        &[(3, 0)],
+        &[(4, 0), (4, 1)],
+        &[(1, 0), (2, 0)],
+        &[(1, 1), (1, 1), (2, 1)],
+        &[(5, 0), (6, 0)],
+        &[(5, 0), (3, 1), (6, 0)],
+    ];
+    let other = random.pick(&other).iter();
+    words.extend(other.map(|&frame| word(1, frame)));
+    reschedule(random, &words)
 }
 
 /// Units of several threads under at most eight locks, interleaved at random: reducible, and
@@ -395,8 +508,14 @@ pub fn damage_frames(random: &mut Random, words: &mut Vec<u32>) {
             16..22 => words.insert(place, words[place]),
             22..26 => words[place] ^= 1 << random.below(32),
             26..30 => words.swap(place, other),
-            30..34 => words.splice(place..place, [5 << 24; 16]).for_each(drop),
-            34..39 => words[place] ^= 3 << 24,
+            30..33 => words.splice(place..place, [5 << 24; 16]).for_each(drop),
+            33..36 => {
+                let acquire = words.iter().rposition(|word| word >> 24 == 1);
+                let place = acquire.unwrap_or(place);
+                let again = [words[place]; MOST_HOLDS as usize];
+                words.splice(place..place, again).for_each(drop);
+            }
+            36..39 => words[place] ^= 3 << 24,
             _ => words.resize(random.between(4096, 4099), words[place]),
         }
     }

@@ -1,6 +1,7 @@
 //! Counts of answers by call, as a table.
 
 use crate::case::{Call, Tally, CALLS, EDGES};
+use crate::holds::SHOWN;
 
 /// A tally for each call.
 pub type Tallies = [Tally; CALLS.len()];
@@ -110,7 +111,7 @@ pub fn print_table(tallies: &Tallies) -> bool {
     row("written", Answer::Written);
     row("equal", Answer::Equal);
     row("different", Answer::Different);
-    for number in 1..20 {
+    for number in 1..21 {
         row(&format!("refusal {number}"), Answer::Refusal(number));
     }
     complete
@@ -132,16 +133,37 @@ pub fn print_moved(tallies: &Tallies) -> bool {
     complete
 }
 
-/// The boundaries of texts and verdict lines; false if one was not met.
+/// Recordings with an inner acquire and its release, by call and answer; false if an answer lacks
+/// them.
+pub fn print_inner(tallies: &Tallies) -> bool {
+    let mut complete = true;
+    for call in CALLS.into_iter().filter(|call| call.checks_recording()) {
+        let inner = tallies[call as usize].inner;
+        let answer = |kind: &usize| format!("{} {}", call.answer(*kind), inner[*kind]);
+        let answers: Vec<String> = call.possible_kinds().iter().map(answer).collect();
+        println!("{} with inner pairs: {}", call.name(), answers.join(", "));
+        let absent = call.possible_kinds().iter().any(|&kind| inner[kind] == 0);
+        if absent {
+            println!("FAILED: an answer of {} has no inner pairs", call.name());
+        }
+        complete &= !absent;
+    }
+    complete
+}
+
+/// The boundaries of texts and verdict lines, and of locks taken again; false if one was not met.
 pub fn print_edges<'a>(tallies: impl IntoIterator<Item = &'a Tally>) -> bool {
     let mut all = Tally::default();
     tallies.into_iter().for_each(|tally| all.add(tally));
-    for (name, count) in EDGES.iter().zip(all.edges) {
+    let edges = EDGES.iter().zip(all.edges);
+    let shown = SHOWN.iter().zip(all.shown);
+    let mut complete = true;
+    for (name, count) in edges.chain(shown) {
         println!("{name}: {count}");
+        complete &= count > 0;
     }
-    let complete = !all.edges.contains(&0);
     if !complete {
-        println!("FAILED: a boundary of texts or verdict lines was not met");
+        println!("FAILED: a boundary of texts, verdict lines or locks was not met");
     }
     complete
 }

@@ -268,8 +268,8 @@ fn reason(violation: &Violation, variable: u32) -> String {
             "Variable {variable} has no guard: another thread may change it, or what the block \
              accessed before, between these lines."
         ),
-        3 => "A block takes no lock after its commit: between these lines another thread may change \
-              what the block has read or written."
+        3 => "A block takes no new lock after its commit: between these lines another thread may \
+              change what the block has read or written."
             .into(),
         _ => format!(
             "Locks left that may guard variable {variable}: {locks}. Thread {thread} holds none of \
@@ -290,8 +290,8 @@ fn line_reason(violation: &Violation) -> String {
               before, between these lines."
             .into(),
         3 => format!(
-            "A block takes no lock after its commit, here lock {locks}: between these lines another \
-             thread may change what the block has read or written."
+            "A block takes no new lock after its commit, here lock {locks}: between these lines \
+             another thread may change what the block has read or written."
         ),
         _ => format!(
             "Locks left that may guard the variable: {locks}. Thread {thread} holds none of them, so \
@@ -327,7 +327,7 @@ fn refusal_text(refused: &Refused) -> String {
              begin or an end has 0000."
         ),
         7 => format!(
-            "{frame} takes a lock that is held already; release it before this line."
+            "{frame} takes a lock that another thread holds; it has to be released before this line."
         ),
         8 => format!(
             "{frame} lets go a lock that {holder} does not hold; acquire it first or drop the line."
@@ -355,6 +355,9 @@ fn refusal_text(refused: &Refused) -> String {
                FF, and one LF; hand it on as it was written."
             .into(),
         19 => format!("the text has fewer than {place} bytes from the given place on; lend them."),
+        20 => format!(
+            "{frame} takes a lock that {holder} holds 15 times already; hold it at most 15 times."
+        ),
         _ => format!("which this check does not give; its place is {place}."),
     };
     format!("refused: number {number}, {reason}\n")

@@ -5,8 +5,14 @@ use Rattle.operation.proofs.operation_of.Tie as tie
 enum-known-a : tie.Need-enum-known-a
 enum-known-a c = search needs
 
+at-level-requires : tie.Need-at-level-requires
+at-level-requires c κs = search needs
+
 enum-known-a-2 : tie.Need-enum-known-a-2
 enum-known-a-2 c = search needs
+
+at-level-requires-2 : tie.Need-at-level-requires-2
+at-level-requires-2 c κs = search needs
 
 enum-known-a-3 : tie.Need-enum-known-a-3
 enum-known-a-3 c = search needs
@@ -27,10 +33,10 @@ enum-told-2 : tie.Need-enum-told-2
 enum-told-2 c = search needs
 
 returns : tie.Need-returns
-returns c = rw (c .before .a .given .1)
+returns c = rw (c .before .before .a .given .1) (c .at-level .ensures)
 
 returns-2 : tie.Need-returns-2
-returns-2 c = rw (c .before .a2 .given .1)
+returns-2 c = rw (c .before .before .a2 .given .1) (c .at-level2 .ensures)
 
 returns-3 : tie.Need-returns-3
 returns-3 c = rw (c .before .before .a3 .given .1) (c .access-of .ensures)
@@ -49,7 +55,9 @@ operation-of-spec =
     tie.close
     (tie.spec
     enum-known-a
+    at-level-requires
     enum-known-a-2
+    at-level-requires-2
     enum-known-a-3
     access-of-requires
     enum-known-a-4

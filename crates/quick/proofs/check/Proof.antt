@@ -19,7 +19,7 @@ check-from-requires c κs = search needs
 returns-2 : tie.Need-returns-2
 unfolding start
 returns-2 c =
-    ap (λ (x : Checked). x .reply) (c .check-from .ensures ∙ sym (c .before .before .before .passed .ensures .same)) ∙ sym (check-short (c .before .before .before .before .before .before .before .before .args .words .now) (c .before .before .before .before .before .before .if1 .left))
+    ap (λ (x : Checked). x .reply) (c .check-from .ensures ∙ sym (c .before .before .before .before .passed .ensures .same)) ∙ sym (check-short (c .before .before .before .before .before .before .before .before .before .before .args .words .now) (c .before .before .before .before .before .before .before .before .if1 .left))
 
 pub check-spec : {M : Type 1} → statement M
 check-spec = tie.close (tie.spec returns passed-requires check-from-requires returns-2)

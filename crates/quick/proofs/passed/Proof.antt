@@ -11,10 +11,10 @@ use Rattle.quick.proofs.passed.Statement.{statement}
 use Rattle.quick.proofs.passed.Tie as tie
 
 abbrev Inv-loop : tie.InvT-loop
-Inv-loop words owners₀ depths₀ i₀ owners depths i = PassedTo words i (stateOf owners₀ depths₀) (stateOf owners depths)
+Inv-loop words owners₀ counts₀ depths₀ i₀ owners counts depths i = PassedTo words i (stateOf owners₀ counts₀ depths₀) (stateOf owners counts depths)
 
 abbrev μ-loop : tie.MeasureT-loop
-μ-loop words owners₀ depths₀ i₀ owners depths i = length words - i
+μ-loop words owners₀ counts₀ depths₀ i₀ owners counts depths i = length words - i
 
 loop-holds : tie.Need-loop-holds Inv-loop μ-loop
 loop-holds c = record { within = omega arith; same = refl }
@@ -36,11 +36,12 @@ loop-less c = search needs
 
 loop-again : tie.Need-loop-again Inv-loop μ-loop
 loop-again c =
-    passed-more (search needs) (c .before .before .before .before .before .before .loop .inv) (rw (c .if1 .taken) at (c .before .passes .ensures))
+    let e = rw (c .if1 .taken) at (c .before .passes .ensures) in
+    passed-more (search needs) (c .before .before .before .before .before .before .before .loop .inv) (e .1)
 
 returns : tie.Need-returns Inv-loop μ-loop
 returns c =
-    subst (PassedTo _ _ _) (sym (rw (c .if1 .left) at (c .before .passes .ensures))) (c .before .before .before .before .before .before .loop .inv)
+    subst (PassedTo _ _ _) (sym (rw (c .if1 .left) at (c .before .passes .ensures))) (c .before .before .before .before .before .before .before .loop .inv)
 
 returns-2 : tie.Need-returns-2 Inv-loop μ-loop
 returns-2 c = c .before .loop .inv

@@ -1,4 +1,4 @@
--- The number less 1, or the number and 12.
+-- The number less 1, the number and 13, or 24.
 use borrow.Author.Tests.{lt-ltb, le-ltb}
 use native.Mathlib.Omega.{arith}
 use Rattle.refusaltext.proofs.Sentences.{refusal-numbered}
@@ -21,19 +21,23 @@ sub-result-2 c = rw (c .before .before .refusal-number .ensures) (refusal-number
 returns-2 : tie.Need-returns-2
 returns-2 c = rw (c .before .if1 .left, ← c .before .before .refusal-number .ensures, lt-ltb _ _ (c .if2 .taken))
 
-sub-result-3 : tie.Need-sub-result-3
-sub-result-3 c = search needs
+add-result : tie.Need-add-result
+add-result c = search needs
 
 returns-3 : tie.Need-returns-3
 returns-3 c =
     rw (c .before .before .if1 .left, ← c .before .before .before .refusal-number .ensures, le-ltb _ _ (c .before .if2 .left), lt-ltb _ _ (c .if3 .taken))
 
-add-result : tie.Need-add-result
-add-result c = search needs
+sub-result-3 : tie.Need-sub-result-3
+sub-result-3 c = search needs
 
 returns-4 : tie.Need-returns-4
 returns-4 c =
-    rw (c .before .before .if1 .left, ← c .before .before .before .refusal-number .ensures, le-ltb _ _ (c .before .if2 .left), le-ltb _ _ (c .if3 .left))
+    rw (c .before .before .before .if1 .left, ← c .before .before .before .before .refusal-number .ensures, le-ltb _ _ (c .before .before .if2 .left), le-ltb _ _ (c .before .if3 .left), lt-ltb _ _ (c .if4 .taken))
+
+returns-5 : tie.Need-returns-5
+returns-5 c =
+    rw (c .before .before .before .if1 .left, ← c .before .before .before .before .refusal-number .ensures, le-ltb _ _ (c .before .before .if2 .left), le-ltb _ _ (c .before .if3 .left), le-ltb _ _ (c .if4 .left))
 
 pub line-of-spec : {M : Type 1} → statement M
 line-of-spec =
@@ -44,7 +48,8 @@ line-of-spec =
     returns
     sub-result-2
     returns-2
-    sub-result-3
-    returns-3
     add-result
-    returns-4)
+    returns-3
+    sub-result-3
+    returns-4
+    returns-5)

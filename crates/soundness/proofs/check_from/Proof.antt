@@ -1,4 +1,4 @@
--- Invariant: the pass is that of going on from place i with the locks and blocks in the two arrays.
+-- Invariant: the pass is that of going on from place i with the locks and blocks in the three arrays.
 use Prim.Native.Nat.{_-_, _≤_}
 use mathlib.Core.Path.{_≡_, refl, sym, _∙_}
 use native.Mathlib.Omega.{arith}
@@ -11,11 +11,11 @@ use Rattle.soundness.proofs.check_from.Statement.{statement}
 use Rattle.soundness.proofs.check_from.Tie as tie
 
 abbrev Inv-loop : tie.InvT-loop
-Inv-loop words owners₀ depths₀ from i₀ owners depths i =
-    (i ≤ length words) × (checkFrom from (stateOf owners₀ depths₀) (drop from words) ≡ checkFrom i (stateOf owners depths) (drop i words))
+Inv-loop words owners₀ counts₀ depths₀ from i₀ owners counts depths i =
+    (i ≤ length words) × (checkFrom from (stateOf owners₀ counts₀ depths₀) (drop from words) ≡ checkFrom i (stateOf owners counts depths) (drop i words))
 
 abbrev μ-loop : tie.MeasureT-loop
-μ-loop words owners₀ depths₀ from i₀ owners depths i = length words - i
+μ-loop words owners₀ counts₀ depths₀ from i₀ owners counts depths i = length words - i
 
 loop-holds : tie.Need-loop-holds Inv-loop μ-loop
 loop-holds c = (search needs, refl)
@@ -38,21 +38,21 @@ enum-told c = search needs
 refusal-of-requires : tie.Need-refusal-of-requires Inv-loop μ-loop
 refusal-of-requires c κs = search needs
 
-cast-t14 : tie.Need-cast-t14 Inv-loop μ-loop
-cast-t14 c = search needs
+cast-t15 : tie.Need-cast-t15 Inv-loop μ-loop
+cast-t15 c = search needs
 
 returns : tie.Need-returns Inv-loop μ-loop
 returns c =
     let l = c .before .before .before .before .before .before .loop in
     let ws = c .before .before .before .before .before .before .before .before .args .words .now in
-    let s = stateOf (l .owners) (l .depths) in
+    let s = stateOf (l .owners) (l .counts) (l .depths) in
     let h = c .before .before .before .before .before .loop-test .taken in
     let told = c .before .enum-told .given in
     rw (c .refusal-of .ensures, told .1) (sym (l .inv .1 ∙ check-bad ws (l .i) s h _ (sym (c .before .before .before .decode .ensures) ∙ told .1)))
 
 step-requires : tie.Need-step-requires Inv-loop μ-loop
 step-requires c κs =
-    decoded-in-range _ _ (sym (c .before .before .before .before .before .decode .ensures) ∙ c .before .before .before .d .given .1)
+    decoded-in-range _ _ (sym (c .before .before .before .before .before .before .decode .ensures) ∙ c .before .before .before .before .d .given .1)
 
 enum-told-2 : tie.Need-enum-told-2 Inv-loop μ-loop
 enum-told-2 c = search needs
@@ -63,18 +63,18 @@ enum-told-3 c = search needs
 outcome-refusal-requires : tie.Need-outcome-refusal-requires Inv-loop μ-loop
 outcome-refusal-requires c κs = search needs
 
-cast-t19 : tie.Need-cast-t19 Inv-loop μ-loop
-cast-t19 c = search needs
+cast-t21 : tie.Need-cast-t21 Inv-loop μ-loop
+cast-t21 c = search needs
 
 returns-2 : tie.Need-returns-2 Inv-loop μ-loop
 returns-2 c =
-    let l = c .before .before .before .before .before .before .before .before .before .before .before .before .loop in
-    let ws = c .before .before .before .before .before .before .before .before .before .before .before .before .before .before .args .words .now in
-    let s = stateOf (l .owners) (l .depths) in
-    let h = c .before .before .before .before .before .before .before .before .before .before .before .loop-test .taken in
-    let f = sym (c .before .before .before .before .before .before .before .before .before .decode .ensures) ∙ c .before .before .before .before .before .before .before .d .given .1 in
+    let l = c .before .before .before .before .before .before .before .before .before .before .before .before .before .loop in
+    let ws = c .before .before .before .before .before .before .before .before .before .before .before .before .before .before .before .args .words .now in
+    let s = stateOf (l .owners) (l .counts) (l .depths) in
+    let h = c .before .before .before .before .before .before .before .before .before .before .before .before .loop-test .taken in
+    let f = sym (c .before .before .before .before .before .before .before .before .before .before .decode .ensures) ∙ c .before .before .before .before .before .before .before .before .d .given .1 in
     let r = c .before .before .before .step in
-    let n = stateOf (r .last .0) (r .last .1 .0) in
+    let n = stateOf (r .last .0) (r .last .1 .0) (r .last .1 .1 .0) in
     let told = c .before .enum-told3 .given in
     rw (c .outcome-refusal .ensures, told .1) (sym (l .inv .1 ∙ check-fail ws (l .i) s h _ n f _ (r .ensures ∙ rw (told .1))))
 
@@ -86,19 +86,19 @@ loop-less c = search needs
 
 loop-again : tie.Need-loop-again Inv-loop μ-loop
 loop-again c =
-    let l = c .before .before .before .before .before .before .before .before .before .before .before .loop in
-    let ws = c .before .before .before .before .before .before .before .before .before .before .before .before .before .args .words .now in
-    let s = stateOf (l .owners) (l .depths) in
-    let h = c .before .before .before .before .before .before .before .before .before .before .loop-test .taken in
-    let f = sym (c .before .before .before .before .before .before .before .before .decode .ensures) ∙ c .before .before .before .before .before .before .d .given .1 in
+    let l = c .before .before .before .before .before .before .before .before .before .before .before .before .loop in
+    let ws = c .before .before .before .before .before .before .before .before .before .before .before .before .before .before .args .words .now in
+    let s = stateOf (l .owners) (l .counts) (l .depths) in
+    let h = c .before .before .before .before .before .before .before .before .before .before .before .loop-test .taken in
+    let f = sym (c .before .before .before .before .before .before .before .before .before .decode .ensures) ∙ c .before .before .before .before .before .before .before .d .given .1 in
     let r = c .before .before .step in
-    let n = stateOf (r .last .0) (r .last .1 .0) in
-    (omega arith, l .inv .1 ∙ check-next ws (l .i) s h _ n f (r .ensures ∙ rw (c .enum-told2 .given .1)))
+    let n = stateOf (r .last .0) (r .last .1 .0) (r .last .1 .1 .0) in
+    (omega arith, l .inv .1 ∙ check-next ws (l .i) s h _ n f (rw (c .enum-told2 .given .1) at (r .ensures)))
 
 returns-3 : tie.Need-returns-3 Inv-loop μ-loop
 returns-3 c =
     let l = c .before .loop in
-    sym (l .inv .1 ∙ check-end (c .before .before .before .args .words .now) (l .i) (stateOf (l .owners) (l .depths)) (c .loop-test .left))
+    sym (l .inv .1 ∙ check-end (c .before .before .before .args .words .now) (l .i) (stateOf (l .owners) (l .counts) (l .depths)) (c .loop-test .left))
 
 pub check-from-spec : {M : Type 1} → statement M
 check-from-spec =
@@ -113,13 +113,13 @@ check-from-spec =
     enum-known-d
     enum-told
     refusal-of-requires
-    cast-t14
+    cast-t15
     returns
     step-requires
     enum-told-2
     enum-told-3
     outcome-refusal-requires
-    cast-t19
+    cast-t21
     returns-2
     add-i
     loop-less

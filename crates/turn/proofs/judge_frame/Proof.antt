@@ -14,47 +14,54 @@ element-copy-out-depth c = search needs
 step-requires : tie.Need-step-requires
 step-requires c κs = search needs
 
+enum-known-o : tie.Need-enum-known-o
+enum-known-o c = search needs
+
 enum-told : tie.Need-enum-told
 enum-told c = search needs
-
-enum-told-2 : tie.Need-enum-told-2
-enum-told-2 c = search needs
 
 outcome-refusal-requires : tie.Need-outcome-refusal-requires
 outcome-refusal-requires c κs = search needs
 
 returns : tie.Need-returns
 returns c =
-    let told = c .before .enum-told2 .given in
-    (turn-refused (c .before .before .before .before .before .before .before .before .before .args .guards .now) (c .before .before .before .before .before .before .before .before .before .args .depths .now) (c .before .before .before .before .before .before .before .before .before .pre .1 .1) (c .before .before .before .before .before .before .before .before .before .pre .0) _ _ (rw (told .1) at (c .before .before .before .step .ensures)) ∙ rw (c .outcome-refusal .ensures, told .1), tt)
+    let a = c .before .before .before .before .before .before .before .before .before .before .args in
+    let p = c .before .before .before .before .before .before .before .before .before .before .pre in
+    let told = c .before .enum-told .given in
+    (turn-refused (a .guards .now) (a .counts .now) (a .depths .now) (p .1 .1) (p .0) _ _ (rw (told .1) at (c .before .before .before .step .ensures)) ∙ rw (c .outcome-refusal .ensures, told .1), tt)
 
 operation-of-requires : tie.Need-operation-of-requires
 operation-of-requires c κs = search needs
 
 judge-requires : tie.Need-judge-requires
 judge-requires c κs =
-    let g = rw (c .before .before .before .before .before .enum-told .given .1) at (c .before .before .before .before .before .before .before .step .ensures) in
-    (c .before .before .before .before .before .before .before .before .before .before .before .before .before .pre .0 .thread, (c .before .before .before .before .before .before .before .before .before .before .before .before .before .pre .1 .0, rw (c .before .before .before .before .operation-of .ensures) (frame-held (c .before .before .before .before .before .before .before .before .before .before .before .before .before .args .guards .now) (c .before .before .before .before .before .before .before .before .before .before .before .before .before .args .depths .now) (c .before .before .before .before .before .before .before .before .before .before .before .before .before .pre .1 .1) (c .before .before .before .before .before .before .before .before .before .before .before .before .before .pre .0) g .fits)))
+    let a = c .before .before .before .before .before .before .before .before .before .before .before .before .before .before .before .args in
+    let p = c .before .before .before .before .before .before .before .before .before .before .before .before .before .before .before .pre in
+    let g = rw (c .before .before .before .before .before .before .o .given .1) at (c .before .before .before .before .before .before .before .before .step .ensures) in
+    (p .0 .thread, (p .1 .0, rw (c .before .before .before .before .operation-of .ensures) (frame-held (a .guards .now) (a .counts .now) (a .depths .now) (p .1 .1) (p .0) g .fits)))
 
-enum-told-3 : tie.Need-enum-told-3
-enum-told-3 c = search needs
+enum-told-2 : tie.Need-enum-told-2
+enum-told-2 c = search needs
 
 enum-known-v : tie.Need-enum-known-v
 enum-known-v c = search needs
 
 returns-2 : tie.Need-returns-2
 returns-2 c =
-    let g = rw (c .before .before .before .before .before .before .before .before .enum-told .given .1) at (c .before .before .before .before .before .before .before .before .before .before .step .ensures) in
-    let v = c .enum-told3 .given .1 in
-    let a = rw v at (c .before .before .judge .ensures .0) in
-    (turn-judged (c .before .before .before .before .before .before .before .before .before .before .before .before .before .before .before .before .args .guards .now) (c .before .before .before .before .before .before .before .before .before .before .before .before .before .before .before .before .args .depths .now) (c .before .before .before .before .before .before .before .before .before .before .before .before .before .before .before .before .pre .1 .1) (c .before .before .before .before .before .before .before .before .before .before .before .before .before .before .before .before .pre .0) _ _ g (c .before .before .before .before .before .before .before .operation-of .ensures) a, rw (c .before .before .judge .ensures .1, v, c .before .before .before .before .before .before .before .operation-of .ensures) (frame-held (c .before .before .before .before .before .before .before .before .before .before .before .before .before .before .before .before .args .guards .now) (c .before .before .before .before .before .before .before .before .before .before .before .before .before .before .before .before .args .depths .now) (c .before .before .before .before .before .before .before .before .before .before .before .before .before .before .before .before .pre .1 .1) (c .before .before .before .before .before .before .before .before .before .before .before .before .before .before .before .before .pre .0) g .follows))
+    let a = c .before .before .before .before .before .before .before .before .before .before .before .before .before .before .before .before .before .before .args in
+    let p = c .before .before .before .before .before .before .before .before .before .before .before .before .before .before .before .before .before .before .pre in
+    let g = rw (c .before .before .before .before .before .before .before .before .before .o .given .1) at (c .before .before .before .before .before .before .before .before .before .before .before .step .ensures) in
+    let v = c .enum-told2 .given .1 in (
+      turn-judged (a .guards .now) (a .counts .now) (a .depths .now) (p .1 .1) (p .0) g _ _ (c .before .before .before .before .before .before .before .operation-of .ensures) (rw v at (c .before .before .judge .ensures .0)),
+      rw (c .before .before .judge .ensures .1, v, c .before .before .before .before .before .before .before .operation-of .ensures) (frame-held (a .guards .now) (a .counts .now) (a .depths .now) (p .1 .1) (p .0) g .follows),
+    )
 
 returns-3 : tie.Need-returns-3
 returns-3 c =
-    let g = rw (c .before .before .before .before .before .before .before .before .before .enum-told .given .1) at (c .before .before .before .before .before .before .before .before .before .before .before .step .ensures) in
-    let v = c .before .v .given .1 in
-    let a = rw v at (c .before .before .before .judge .ensures .0) in
-    (turn-judged (c .before .before .before .before .before .before .before .before .before .before .before .before .before .before .before .before .before .args .guards .now) (c .before .before .before .before .before .before .before .before .before .before .before .before .before .before .before .before .before .args .depths .now) (c .before .before .before .before .before .before .before .before .before .before .before .before .before .before .before .before .before .pre .1 .1) (c .before .before .before .before .before .before .before .before .before .before .before .before .before .before .before .before .before .pre .0) _ _ g (c .before .before .before .before .before .before .before .before .operation-of .ensures) a, tt)
+    let a = c .before .before .before .before .before .before .before .before .before .before .before .before .before .before .before .before .before .before .before .args in
+    let p = c .before .before .before .before .before .before .before .before .before .before .before .before .before .before .before .before .before .before .before .pre in
+    let g = rw (c .before .before .before .before .before .before .before .before .before .before .o .given .1) at (c .before .before .before .before .before .before .before .before .before .before .before .before .step .ensures) in
+    (turn-judged (a .guards .now) (a .counts .now) (a .depths .now) (p .1 .1) (p .0) g _ _ (c .before .before .before .before .before .before .before .before .operation-of .ensures) (rw (c .before .v .given .1) at (c .before .before .before .judge .ensures .0)), tt)
 
 pub judge-frame-spec : {M : Type 1} → statement M
 judge-frame-spec =
@@ -63,13 +70,13 @@ judge-frame-spec =
     cast-t
     element-copy-out-depth
     step-requires
+    enum-known-o
     enum-told
-    enum-told-2
     outcome-refusal-requires
     returns
     operation-of-requires
     judge-requires
-    enum-told-3
+    enum-told-2
     enum-known-v
     returns-2
     returns-3)

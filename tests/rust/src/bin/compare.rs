@@ -7,6 +7,7 @@ use trace_tests::adversarial::{near_lines, rooms, EDGE_KINDS, EDGE_PLACES};
 use trace_tests::case::{
     frames, text, Call, Case, Implementation, Outcome, Tally, CALLS, MARGIN, REFERENCE,
 };
+use trace_tests::holds::has_inner_pair;
 use trace_tests::random::{self, text_of_words, Random};
 use trace_tests::random_case::{random_case, random_recording, random_right};
 use trace_tests::table::print_edges;
@@ -347,6 +348,139 @@ fn worked_recordings(to: &mut Literals) {
     to.declared("", "05000000", "00000100FFFFFFFF0000000000000000");
 }
 
+/// Locks that their holder takes again.
+fn locks_taken_again(to: &mut Literals) {
+    // In a block: the outer release commits. A lock counts once among those held.
+    let again = "05000000 01000000 01000000 03000005 02000000 02000000 06000000";
+    to.inferred(again, "00000700FFFFFFFF0000000000000000", &[(5, 1)]);
+    to.declared("00050000", again, "00000700FFFFFFFF0000000000000000");
+    to.declared("", again, "00000700FFFFFFFF0000000000000000");
+    let held = "01000000 01000000 03000005 02000000 03000005";
+    to.inferred(held, "00000500FFFFFFFF0000000000000000", &[(5, 1)]);
+    to.declared("00050000", held, "00000500FFFFFFFF0000000000000000");
+    let freed = format!("{held} 02000000 03000005");
+    to.inferred(&freed, "04000600FFFFFFFF0000000000000001", &[(5, 1)]);
+    to.declared("00050000", &freed, "01000600FFFFFFFF0000000000000001");
+    // After commit: lock 1, held all the time, may be taken again; a free lock may not.
+    let after = "05000000 01000000 01000001 02000000 01000001";
+    let closed = format!("{after} 02000001 02000001 06000000");
+    to.inferred(&closed, "00000800FFFFFFFF0000000000000000", &[]);
+    to.declared("", &closed, "00000800FFFFFFFF0000000000000000");
+    for (rest, line) in [
+        ("01000002", "03000500000000030000000000000004"),
+        ("01000000", "03000500000000030000000000000001"),
+        ("02000001 01000000", "03000600000000030000000000000001"),
+        (
+            "02000001 02000001 01000001",
+            "03000700000000030000000000000002",
+        ),
+    ] {
+        to.inferred(&format!("{after} {rest}"), line, &[]);
+        to.declared("", &format!("{after} {rest}"), line);
+    }
+    let outer = "05000000 01000000 01000000 02000000 02000000 01000000";
+    to.inferred(outer, "03000500000000040000000000000001", &[]);
+    // Held before the block: the inner release commits nothing, so a free lock may be taken.
+    let before = "01000000 05000000 01000000 02000000";
+    for (rest, line) in [
+        ("06000000 02000000", "00000600FFFFFFFF0000000000000000"),
+        (
+            "01000001 02000001 06000000",
+            "00000700FFFFFFFF0000000000000000",
+        ),
+        ("02000000 01000001", "03000500000100040000000000000002"),
+    ] {
+        to.inferred(&format!("{before} {rest}"), line, &[]);
+        to.declared("", &format!("{before} {rest}"), line);
+    }
+    to.declared(
+        "00050002",
+        &format!("{before} 03000005"),
+        "010004000001FFFF0000000000000004",
+    );
+    // An unprotected access commits all the same.
+    let unprotected = "01000000 05000000 03000005 01000000 02000000";
+    to.declared(
+        "",
+        &format!("{unprotected} 06000000"),
+        "00000600FFFFFFFF0000000000000000",
+    );
+    to.declared(
+        "",
+        &format!("{unprotected} 03000006"),
+        "02000500000100020000000000000000",
+    );
+    to.declared(
+        "",
+        &format!("{unprotected} 01000001"),
+        "03000500000100020000000000000002",
+    );
+    // The inner releases of one thread and the block of another.
+    let two = "01000000 01000000 05010000 02000000 01010001 02010001 02000000 06010000";
+    to.inferred(two, "00000800FFFFFFFF0000000000000000", &[]);
+}
+
+/// Refusal 20 and its neighbours.
+fn most_holds(to: &mut Literals) {
+    let fifteen = "01000003 ".repeat(15);
+    let sixteen = "01000003 ".repeat(16);
+    let freed = format!("{fifteen}{}", "02000003 ".repeat(15));
+    to.inferred(&fifteen, "00000F00FFFFFFFF0000000000000000", &[]);
+    to.declared("", &fifteen, "00000F00FFFFFFFF0000000000000000");
+    to.inferred(&freed, "00001E00FFFFFFFF0000000000000000", &[]);
+    to.refused(&sixteen, "94000F00FFFFFFFF0000000000000000");
+    for (before, rest, line) in [
+        (&freed, "02000003", "88001E00FFFFFFFF0000000000000000"),
+        (&fifteen, "01010003", "87000F00FFFFFFFF0000000000000000"),
+        (&fifteen, "02010003", "88000F00FFFFFFFF0000000000000000"),
+        // 4 to 6 of the same frame come first.
+        (&fifteen, "09000003", "84000F00FFFFFFFF0000000000000000"),
+        (&fifteen, "01200003", "85000F00FFFFFFFF0000000000000000"),
+        (&fifteen, "01000043", "86000F00FFFFFFFF0000000000000000"),
+        (&fifteen, "01200043", "85000F00FFFFFFFF0000000000000000"),
+        (
+            &fifteen,
+            "02000003 01000003 01000003",
+            "94001100FFFFFFFF0000000000000000",
+        ),
+        (&sixteen, "FFFFFFFF", "94000F00FFFFFFFF0000000000000000"),
+    ] {
+        to.refused(&format!("{before}{rest}"), line);
+    }
+    for (before, rest, line) in [
+        (&freed, "01010003", "00001F00FFFFFFFF0000000000000000"),
+        (&freed, "01000003", "00001F00FFFFFFFF0000000000000000"),
+        (&fifteen, "01000004", "00001000FFFFFFFF0000000000000000"),
+        (&fifteen, "01010004", "00001000FFFFFFFF0000000000000000"),
+        (
+            &fifteen,
+            "02000003 01000003",
+            "00001100FFFFFFFF0000000000000000",
+        ),
+    ] {
+        to.inferred(&format!("{before}{rest}"), line, &[]);
+    }
+    // Each lock and each thread has its own count.
+    let each: String = (0..15)
+        .map(|_| "01000003 01000004 0101003F 011F0000 ")
+        .collect();
+    to.inferred(&each, "00003C00FFFFFFFF0000000000000000", &[]);
+    for last in ["01000003", "01000004", "0101003F", "011F0000"] {
+        let line = "94003C00FFFFFFFF0000000000000000";
+        to.refused(&format!("{each}{last}"), line);
+    }
+    // A violation before it is not told.
+    to.inferred(
+        &format!("03000005 {sixteen}"),
+        "94001000FFFFFFFF0000000000000000",
+        &[],
+    );
+    // 20 comes before 16, as every refusal of the recording.
+    let mut case = Case::new(Call::Inferred);
+    (case.frames, case.sets_len) = (frames(&sixteen), 0);
+    to.expect_line(case, "94000F00FFFFFFFF0000000000000000", None);
+}
+
 fn hidden_faults(to: &mut Literals) {
     // An access of a guarded variable commits nothing.
     let guarded = "05000000 01000000 03000005 01000001 02000000 02000001 06000000";
@@ -415,6 +549,33 @@ fn equal_recordings(to: &mut Literals) {
     let pairs = "01000003 02000003 01010003 02010003";
     to.equal(pairs, "01010003 02010003 01000003 02000003", 0);
     to.equal(pairs, "01000003 02000003 01010003 02010003", 1);
+    // A lock taken again: its thread keeps its order; frames of other items pass.
+    let again = "01000003 01000003 03000005 02000003 02000003";
+    to.equal(again, "01000003 03000005 01000003 02000003 02000003", 0);
+    to.equal(again, "01000003 01000003 02000003 03000005 02000003", 0);
+    to.equal(again, "01000003 02000003 01000003 03000005 02000003", 0);
+    let other = "01000003 01000003 03010003 02000003 01010004 02000003";
+    to.equal(
+        other,
+        "03010003 01010004 01000003 01000003 02000003 02000003",
+        1,
+    );
+    to.equal(
+        other,
+        "01010004 01000003 01000003 02000003 02000003 03010003",
+        0,
+    );
+    let twice = "01000003 01000003 02000003 02000003 01010003 02010003";
+    to.equal(
+        twice,
+        "01010003 02010003 01000003 01000003 02000003 02000003",
+        0,
+    );
+    to.equal(
+        twice,
+        "01000003 02000003 01000003 02000003 01010003 02010003",
+        0,
+    );
     // The frames between must pass as well.
     to.equal(
         "03000000 03010000 03010001 03020001",
@@ -456,6 +617,9 @@ fn equal_recordings(to: &mut Literals) {
         ("01000003 02010003", 8, 1),
         (&"05000000 ".repeat(16), 9, 15),
         ("05000000 06000000 06000000", 10, 2),
+        (&"01000003 ".repeat(16), 20, 15),
+        ("01000003 01000003 01010003", 7, 2),
+        ("01000003 01000003 02000003 02000003 02000003", 8, 4),
     ] {
         let words = frames(words);
         for other in ["", "03000000", "05000000 06000000 03000001"] {
@@ -492,6 +656,24 @@ fn serial_orders(to: &mut Literals) {
     // The first release commits, not a later one.
     let releases = "01000000 01000001 05000000 02000000 05010000 06010000 02000001 06000000";
     to.serial(None, releases, &[0, 1, 2, 3, 6, 7, 4, 5]);
+    // Of a lock taken again the outer release commits, wherever the inner one stands.
+    let again = "05000000 01000000 03000005 01000000 02000000 05010000 06010000 02000000 06000000";
+    to.serial(None, again, &[5, 6, 0, 1, 2, 3, 4, 7, 8]);
+    to.serial(Some("00050000"), again, &[5, 6, 0, 1, 2, 3, 4, 7, 8]);
+    to.serial(Some(""), again, &[0, 1, 2, 3, 4, 7, 8, 5, 6]);
+    // Held before the block, it commits at the end, or at the release of another lock.
+    let before = "01000000 05000000 01000000 02000000 05010000 06010000 06000000 02000000";
+    to.serial(None, before, &[0, 4, 5, 1, 2, 3, 6, 7]);
+    let other = "01000000 05000000 01000000 02000000 01000001 05010000 06010000 02000001 06000000";
+    to.serial(None, other, &[0, 5, 6, 1, 2, 3, 4, 7, 8]);
+    // Taken again after the commit.
+    let after = "05000000 01000000 01000001 02000000 05010000 06010000 01000001 02000001 \
+                 02000001 06000000";
+    to.serial(None, after, &[0, 1, 2, 3, 6, 7, 8, 9, 4, 5]);
+    to.serial(Some(""), after, &[0, 1, 2, 3, 6, 7, 8, 9, 4, 5]);
+    // Outside, each taking and letting go is a unit of its own.
+    let outside = "05010000 01000000 01000000 02000000 02000000 06010000";
+    to.serial(None, outside, &[1, 2, 3, 4, 0, 5]);
     // Unguarded F, and D declared.
     to.serial(Some(""), "05000000 03000005 06000000", &[0, 1, 2]);
     to.serial(Some(""), "03000005", &[0]);
@@ -511,6 +693,11 @@ fn serial_orders(to: &mut Literals) {
     // J, and every refusal before the next: list, recording, 13, 14, 15.
     to.serial_refused(None, "01000003 01010003", 7, 1);
     to.serial_refused(None, "01000003 02010003", 8, 1);
+    to.serial_refused(None, &"01000003 ".repeat(16), 20, 15);
+    let after = "03000005 05000000 ".to_string() + &"01000003 ".repeat(16);
+    to.serial_refused(Some(""), &after, 20, 17);
+    let outer = "05000000 01000000 01000000 02000000 02000000 01000000";
+    to.serial_refused(None, outer, 13, 5);
     to.serial_refused(Some("04000000"), "FFFFFFFF", 11, 0);
     to.serial_refused(Some("00050002 00050002"), "03000005", 12, 1);
     to.serial_refused(Some("0005000"), "05000000", 1, 0);
@@ -553,8 +740,20 @@ fn frame_boundaries(to: &mut Literals) {
     to.refused("05000001", "86000000FFFFFFFF0000000000000000");
     to.refused("06000001", "86000000FFFFFFFF0000000000000000");
     to.refused("0100FFFF", "86000000FFFFFFFF0000000000000000");
-    // 7
-    to.refused("01000003 01000003", "87000100FFFFFFFF0000000000000000");
+    // 7; by its holder a lock is taken again
+    to.refused("0100003F 011F003F", "87000100FFFFFFFF0000000000000000");
+    to.inferred("01000003 01000003", "00000200FFFFFFFF0000000000000000", &[]);
+    for (rest, line) in [
+        ("01010003", "87000200FFFFFFFF0000000000000000"),
+        ("02000003 01010003", "87000300FFFFFFFF0000000000000000"),
+    ] {
+        to.refused(&format!("01000003 01000003 {rest}"), line);
+    }
+    to.inferred(
+        "01000003 01000003 02000003 02000003 01010003",
+        "00000500FFFFFFFF0000000000000000",
+        &[],
+    );
     to.inferred(
         "01000003 02000003 01010003",
         "00000300FFFFFFFF0000000000000000",
@@ -776,6 +975,9 @@ fn written_texts(to: &mut Literals) {
         ("01000003 02010003", 8, 1),
         (&"05000000 ".repeat(16), 9, 15),
         ("05000000 06000000 06000000", 10, 2),
+        (&"01000003 ".repeat(16), 20, 15),
+        ("01000003 01000003 01010003", 7, 2),
+        ("01000003 01000003 02000003 02000003 02000003", 8, 4),
     ] {
         let words = frames(words);
         for room in [
@@ -914,14 +1116,17 @@ fn compare_edges() -> Tally {
 
 /// The search over exchanges and the projections agree on short sound recordings.
 fn compare_search(random: &mut Random) -> bool {
-    // Not equal and equal: all, and those with the same frames in another order.
-    let (mut counts, mut rearranged) = ([0; 2], [0; 2]);
+    // Not equal and equal: all, those with the same frames in another order, and those of these
+    // with an inner acquire and its release.
+    let (mut counts, mut rearranged, mut inner) = ([0; 2], [0; 2], [0; 2]);
     while counts[0] + counts[1] < BRUTE_PAIRS {
-        let mut left = match random.below(3) {
+        let mut left = match random.below(4) {
             0 => random_recording(random, Call::Equal, false).words,
+            1 => random::taken_again(random),
             _ => random::interleaved(random, 8, true).words,
         };
         left.truncate(random.between(2, BRUTE_FRAMES));
+        let inner_pair = has_inner_pair(&left, left.len());
         let right = random_right(random, &left);
         let reply = equal(&left, &right);
         if reply >> 32 != 0 {
@@ -939,11 +1144,14 @@ fn compare_search(random: &mut Random) -> bool {
         let same_frames = left != right && sorted(&left) == sorted(&right);
         counts[reply as usize] += 1;
         rearranged[reply as usize] += usize::from(same_frames);
+        inner[reply as usize] += usize::from(same_frames && inner_pair);
     }
     let ([unequal, equal], [unequal_order, equal_order]) = (counts, rearranged);
+    let [unequal_inner, equal_inner] = inner;
     println!("equality by search: {equal} equal, {equal_order} of these in another order");
     println!("  {unequal} not equal, {unequal_order} of these with the same frames");
-    !rearranged.contains(&0)
+    println!("  with inner pairs: {equal_inner} and {unequal_inner} of these");
+    !rearranged.contains(&0) && !inner.contains(&0)
 }
 
 /// Prints the counts; false if something that can occur is absent.
@@ -984,6 +1192,12 @@ fn report(tally: &Tally, call: Call) -> bool {
             complete &= !tally.shapes.contains(&0);
         }
     }
+    if call.checks_recording() {
+        let answer = |&kind: &usize| format!("{} {}", call.answer(kind), tally.inner[kind]);
+        let answers: Vec<String> = kinds.iter().map(answer).collect();
+        println!("  with inner pairs: {}", answers.join(", "));
+        complete &= kinds.iter().all(|&kind| tally.inner[kind] > 0);
+    }
     if !complete {
         println!("  FAILED: something that can occur did not");
     }
@@ -997,6 +1211,8 @@ fn main() {
     };
     let mut literals = Literals::default();
     worked_recordings(&mut literals);
+    locks_taken_again(&mut literals);
+    most_holds(&mut literals);
     hidden_faults(&mut literals);
     frame_boundaries(&mut literals);
     order_of_refusals(&mut literals);

@@ -13,7 +13,9 @@ use trace_tests::random::{
     close_blocks, damage_guards, damage_text, interleaved, text_of_words, Random,
 };
 use trace_tests::random_case::{exact_list, random_case, random_recording, random_right};
-use trace_tests::table::{occurs, print_edges, print_moved, print_table, Answer, Tallies};
+use trace_tests::table::{
+    occurs, print_edges, print_inner, print_moved, print_table, Answer, Tallies,
+};
 use trace_tests::{Fields, LINE_BYTES, MOST_FRAMES, VARIABLES};
 
 #[path = "../ffi.rs"]
@@ -38,7 +40,7 @@ struct Family {
     refusals: &'static [usize],
 }
 
-const FAMILIES: [Family; 12] = [
+const FAMILIES: [Family; 13] = [
     Family {
         name: "bytes",
         share: 8,
@@ -64,7 +66,7 @@ const FAMILIES: [Family; 12] = [
         round: random_operation,
         least_rounds: 2_000,
         kinds: &[0, 1, 2, 3, 4],
-        refusals: &[4, 5, 6, 7, 8, 10],
+        refusals: &[4, 5, 6, 7, 8, 10, 20],
     },
     Family {
         name: "nesting",
@@ -83,6 +85,15 @@ const FAMILIES: [Family; 12] = [
         least_rounds: 2_000,
         kinds: &[0, 1, 3, 4],
         refusals: &[7, 8, 13, 14],
+    },
+    Family {
+        name: "holds",
+        share: 12,
+        fixed: each_hold,
+        round: random_holds,
+        least_rounds: 2_000,
+        kinds: &[0, 3, 4],
+        refusals: &[7, 8, 13, 14, 20],
     },
     Family {
         name: "threads",
@@ -127,7 +138,7 @@ const FAMILIES: [Family; 12] = [
         round: random_rooms,
         least_rounds: 2_000,
         kinds: &[],
-        refusals: &[2, 4, 5, 6, 7, 8, 9, 10, 19],
+        refusals: &[2, 4, 5, 6, 7, 8, 9, 10, 19, 20],
     },
     Family {
         name: "lines",
@@ -145,7 +156,7 @@ const FAMILIES: [Family; 12] = [
         round: general,
         least_rounds: 300,
         kinds: &[0, 4],
-        refusals: &[1, 2, 4, 7, 8, 10],
+        refusals: &[1, 2, 4, 7, 8, 10, 20],
     },
 ];
 
@@ -275,7 +286,7 @@ impl Soak {
 
 /// Every byte at every place of four lines.
 fn each_byte(soak: &mut Soak) {
-    let recording = text("01000003 01000004 03000005 02000003");
+    let recording = text("01000003 01010004 03000005 02000003");
     let list = text("00050003 00060004 00070005 00080006");
     for place in 0..recording.len() {
         for byte in 0..=255 {
@@ -483,17 +494,18 @@ const EDGE_THREADS: [u32; 4] = [0, 31, 32, 255];
 const EDGE_OBJECTS: [u32; 6] = [0, 63, 64, 1023, 1024, 65535];
 
 /// Every operation byte, alone, and after frames that leave threads 0 and 31 with their locks
-/// before commit, or without locks after commit.
+/// before commit, without locks after commit, or with their locks as often as can be.
 fn each_operation(soak: &mut Soak) {
     let before = frames("05000000 051F0000 01000000 011F003F 04000000");
     let after = frames("05000000 051F0000 01000005 02000005 011F0006 021F0006");
+    let full = frames("01000000 011F003F").repeat(MOST_HOLDS);
     let list = text("00000000");
     for operation in 0..=255 {
         for thread in EDGE_THREADS {
             for object in EDGE_OBJECTS {
                 let last = word(operation, thread, object);
                 soak.text(Call::Guards, &text_of_words(&[last]));
-                for prefix in [&[], &before[..], &after] {
+                for prefix in [&[], &before[..], &after, &full] {
                     soak.recording(&list, &[prefix, &[last]].concat());
                 }
             }
@@ -588,6 +600,55 @@ fn each_lock(soak: &mut Soak) {
 fn random_locks(soak: &mut Soak) {
     let random = &mut soak.random;
     let mut made = lock_walk(random);
+    if random.chance(500) {
+        close_blocks(random, &mut made.words, MOST_FRAMES);
+    }
+    let list = exact_list(random, &made.guards);
+    soak.recording(&list, &made.words);
+}
+
+// Locks taken again.
+
+/// Each lock, held once or more often by one thread: taken once more, let go once, taken by another
+/// thread, let go until it is free; in no block, in one around all, and in one that begins with the
+/// lock held.
+fn each_hold(soak: &mut Soak) {
+    for lock in 0..LOCKS {
+        let (thread, other) = (lock % THREADS, (lock + 1) % THREADS);
+        let (take, give) = (word(ACQUIRE, thread, lock), word(RELEASE, thread, lock));
+        let (other_takes, other_gives) = (word(ACQUIRE, other, lock), word(RELEASE, other, lock));
+        let free = word(ACQUIRE, thread, lock ^ 1);
+        let (read, begin) = (word(READ, thread, 5), word(BEGIN, thread, 0));
+        let list = text_of_words(&[5 << 16 | lock]);
+        for holds in [1, 2, 3, MOST_HOLDS - 1, MOST_HOLDS, MOST_HOLDS + 1] {
+            let (takes, gives) = (vec![take; holds], vec![give; holds]);
+            for rest in [
+                &[][..],
+                &[take, give],
+                &[give, read],
+                &[give, take, free, read],
+                &[other_takes],
+                &[give, other_takes],
+                &[give, other_gives],
+                &[&gives[..], &[other_takes, other_gives, take]].concat(),
+                &[&gives[1..], &[free]].concat(),
+                &[&gives[1..], &[read, take, read]].concat(),
+                &[&gives[..], &[give]].concat(),
+                &[&gives[..], &[read]].concat(),
+                &[&gives[..], &[take]].concat(),
+                &[&gives[..], &[free]].concat(),
+            ] {
+                for inside in [&[take][..], &[begin, take], &[take, begin]] {
+                    soak.recording(&list, &[inside, &takes[1..], rest].concat());
+                }
+            }
+        }
+    }
+}
+
+fn random_holds(soak: &mut Soak) {
+    let random = &mut soak.random;
+    let mut made = hold_walk(random);
     if random.chance(500) {
         close_blocks(random, &mut made.words, MOST_FRAMES);
     }
@@ -764,10 +825,25 @@ fn each_item(soak: &mut Soak) {
     }
     for lock in 0..LOCKS {
         let (one, two) = (1 + lock % 16, 17 + lock % 15);
-        let used = |thread, lock| [word(ACQUIRE, thread, lock), word(RELEASE, thread, lock)];
-        for other in [lock, lock ^ 1] {
-            let (left, right) = (used(one, lock), used(two, other));
-            both_ways(soak, &[left, right].concat(), &[right, left].concat());
+        for holds in [1, 2, MOST_HOLDS] {
+            let used = |thread, lock| {
+                let (take, give) = (word(ACQUIRE, thread, lock), word(RELEASE, thread, lock));
+                [vec![take; holds], vec![give; holds]].concat()
+            };
+            for other in [lock, lock ^ 1] {
+                let (left, right) = (used(one, lock), used(two, other));
+                both_ways(
+                    soak,
+                    &[&left[..], &right].concat(),
+                    &[&right[..], &left].concat(),
+                );
+            }
+        }
+        // An inner acquire passes no access of its own thread, but one of another thread, also of
+        // the variable of its lock's number.
+        let take = word(ACQUIRE, one, lock);
+        for read in [word(READ, one, lock), word(READ, two, lock)] {
+            both_ways(soak, &[take, take, read], &[take, read, take]);
         }
     }
 }
@@ -781,7 +857,7 @@ fn random_exchanges(soak: &mut Soak) {
 // Texts that are written.
 
 /// Sound recordings of several lengths, and one refused by each number but 2.
-const WRITTEN: [&str; 11] = [
+const WRITTEN: [&str; 13] = [
     "",
     "03000005",
     "05000000 06000000",
@@ -789,11 +865,14 @@ const WRITTEN: [&str; 11] = [
     "05000000 07000000",
     "03200000",
     "04000400",
-    "0100003F 0100003F",
+    "0100003F 0100003F 0200003F 0200003F",
+    "0100003F 011F003F",
     "0100003F 021F003F",
     "051F0000 051F0000 051F0000 051F0000 051F0000 051F0000 051F0000 051F0000 \
      051F0000 051F0000 051F0000 051F0000 051F0000 051F0000 051F0000 051F0000",
     "061F0000",
+    "011F003F 011F003F 011F003F 011F003F 011F003F 011F003F 011F003F 011F003F \
+     011F003F 011F003F 011F003F 011F003F 011F003F 011F003F 011F003F 011F003F",
 ];
 
 /// Each boundary of the room, for short recordings and for the longest ones.
@@ -949,7 +1028,8 @@ fn main() {
             total.add(tally);
         }
     }
-    let complete = print_table(&totals) & print_moved(&totals) & print_edges(&totals);
+    let complete =
+        print_table(&totals) & print_moved(&totals) & print_inner(&totals) & print_edges(&totals);
     if !complete {
         println!("FAILED: soak, something that can occur did not");
         exit(1);

@@ -32,14 +32,20 @@ struct Workload {
     texts: Vec<Vec<u8>>,
 }
 
-/// Random and reducible with inferred guards.
+/// Random and reducible with inferred guards. No lock is taken again by its holder.
 fn reducible(random: &mut Random, frames: usize) -> Vec<u32> {
+    reducible_with(random, frames, 0)
+}
+
+/// As `reducible`; inner acquires and their releases have this weight.
+fn reducible_with(random: &mut Random, frames: usize, inner: usize) -> Vec<u32> {
     let plan = Plan {
         threads: random.between(1, 32),
         locks: random.between(1, 64),
         variables: random.between(1, 1024),
         frames,
         nesting: random.between(1, 3),
+        inner,
         unprotected: 0,
         careless: 0,
         wild: 0,
@@ -66,6 +72,9 @@ fn workloads() -> Vec<Workload> {
     let violating = [vec![0x0300_0000], reducible(random, FRAMES - 1)].concat();
     let mut refused = text_of_words(&reducible(random, FRAMES));
     *refused.last_mut().expect("not empty") = b'\r';
+    let again = (0..64)
+        .map(|_| text_of_words(&reducible_with(random, FRAMES, 1)))
+        .collect();
     let one = |name, kind, text| Workload {
         name,
         kind,
@@ -85,6 +94,11 @@ fn workloads() -> Vec<Workload> {
         one("violation at frame 0", 4, text_of_words(&violating)),
         one("refusal in the last line", 0x81, refused),
         one("empty text", 0, Vec::new()),
+        Workload {
+            name: "64 random ones, some locks taken again",
+            kind: 0,
+            texts: again,
+        },
     ]
 }
 
@@ -208,6 +222,7 @@ fn pair(random: &mut Random, frames: usize, unprotected: bool) -> Pair {
             variables: random.between(1, 1024),
             frames,
             nesting: random.between(1, 3),
+            inner: 0,
             unprotected: if unprotected { 1000 } else { 0 },
             careless: 0,
             wild: 0,

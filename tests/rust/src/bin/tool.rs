@@ -104,7 +104,7 @@ const NOT_GIVEN: &str = ", which this check does not give; ";
 fn label(printed: &str) -> String {
     let words: Vec<&str> = printed.split_whitespace().take(3).collect();
     match words[..] {
-        ["refused:", ..] if printed.contains(NOT_GIVEN) => "refusal above 19".into(),
+        ["refused:", ..] if printed.contains(NOT_GIVEN) => "refusal above 20".into(),
         ["refused:", _, number] => {
             let file = FILES.iter().find(|file| printed.contains(*file));
             refusal_label(number.trim_end_matches(','), file.unwrap_or(&""))
@@ -131,7 +131,7 @@ fn required(command: &str) -> Vec<String> {
         let label = |number: &usize| refusal_label(&number.to_string(), file);
         numbers.iter().map(label).collect()
     };
-    let sound: &[usize] = &[1, 2, 4, 5, 6, 7, 8, 9, 10];
+    let sound: &[usize] = &[1, 2, 4, 5, 6, 7, 8, 9, 10, 20];
     let of_files = [
         refusals(GUARD_LIST, &[1, 11, 12]),
         refusals(RECORDING, sound),
@@ -161,12 +161,12 @@ fn required(command: &str) -> Vec<String> {
                 "kind 2",
                 "kind 3",
                 "kind 4",
-                "refusal above 19",
+                "refusal above 20",
             ],
             [
                 refusals(TEXT, &[1, 19]),
                 refusals(GUARD_LIST, &[11, 12]),
-                refusals(RECORDING, &[2, 4, 5, 6, 7, 8, 9, 10, 13, 14]),
+                refusals(RECORDING, &[2, 4, 5, 6, 7, 8, 9, 10, 13, 14, 20]),
                 refusals("", &[3, 15, 16, 17, 18]),
             ]
             .concat(),
@@ -315,8 +315,17 @@ const UNITS: &str = "05000000 05010000 03010000 06010000 03000000 06000000";
 /// Variable 5 under locks {1,2}, then {2,3}, then {3}.
 const SHARED: &str = "01000001 01000002 03000005 02000001 01000003 04000005 02000002 03000005";
 
+/// A lock that its holder takes again, in a block.
+const AGAIN: &str = "05000000 01000000 01000000 03000005 02000000 02000000 06000000";
+/// The outer release commits, behind thread 1's block.
+const AGAIN_UNITS: &str = "05000000 01000000 01000000 02000000 05010000 06010000 02000000 06000000";
+const FIFTEEN: &str = "01000003 01000003 01000003 01000003 01000003 01000003 01000003 01000003 \
+                       01000003 01000003 01000003 01000003 01000003 01000003 01000003";
+const SIXTEEN: &str = "01000003 01000003 01000003 01000003 01000003 01000003 01000003 01000003 \
+                       01000003 01000003 01000003 01000003 01000003 01000003 01000003 01000003";
+
 /// What is printed, given a recording and, for declared guards, a list.
-const LITERALS: [(&str, &str, Option<&str>, &str); 25] = [
+const LITERALS: [(&str, &str, Option<&str>, &str); 32] = [
     ("verdict", A, None, "03000401000000030000000000000001\n"),
     ("verdict", "", None, "00000000FFFFFFFF0000000000000000\n"),
     ("verdict", C, None, "00000A00FFFFFFFF0000000000000000\n"),
@@ -332,6 +341,19 @@ const LITERALS: [(&str, &str, Option<&str>, &str); 25] = [
     ),
     ("verdict", J[0], None, "87000100FFFFFFFF0000000000000000\n"),
     ("verdict", J[1], None, "88000100FFFFFFFF0000000000000000\n"),
+    ("verdict", AGAIN, None, "00000700FFFFFFFF0000000000000000\n"),
+    (
+        "verdict",
+        FIFTEEN,
+        None,
+        "00000F00FFFFFFFF0000000000000000\n",
+    ),
+    (
+        "verdict",
+        SIXTEEN,
+        None,
+        "94000F00FFFFFFFF0000000000000000\n",
+    ),
     (
         "verdict",
         SHARED,
@@ -360,6 +382,12 @@ const LITERALS: [(&str, &str, Option<&str>, &str); 25] = [
     ),
     (
         "serial",
+        AGAIN_UNITS,
+        None,
+        "05010000\n06010000\n05000000\n01000000\n01000000\n02000000\n02000000\n06000000\n",
+    ),
+    (
+        "serial",
         "05000000",
         None,
         "refused: number 14, the block that begins at line 1 [0] of the recording is open at the \
@@ -380,14 +408,31 @@ const LITERALS: [(&str, &str, Option<&str>, &str); 25] = [
     ),
     (
         "explain",
+        AGAIN,
+        Some("00050000"),
+        "reducible: no frame goes wrong; frames: 7.\n",
+    ),
+    (
+        "explain",
         A,
         None,
         "violation: kind 3, acquire after commit, by thread 1.\n  \
          The block begins at line 1 [0].\n  \
          It commits at line 4 [3]: release of lock 0.\n  \
          It goes wrong at line 5 [4]: acquire of lock 0.\n  \
-         A block takes no lock after its commit: between these lines another thread may change \
-         what the block has read or written.\n",
+         A block takes no new lock after its commit: between these lines another thread may \
+         change what the block has read or written.\n",
+    ),
+    (
+        "explain",
+        "05000000 01000003 01000003 02000003 02000003 01000003",
+        None,
+        "violation: kind 3, acquire after commit, by thread 0.\n  \
+         The block begins at line 1 [0].\n  \
+         It commits at line 5 [4]: release of lock 3.\n  \
+         It goes wrong at line 6 [5]: acquire of lock 3.\n  \
+         A block takes no new lock after its commit: between these lines another thread may \
+         change what the block has read or written.\n",
     ),
     (
         "explain",
@@ -435,7 +480,14 @@ const LITERALS: [(&str, &str, Option<&str>, &str); 25] = [
         J[0],
         None,
         "refused: number 7, line 2 [1] of the recording, acquire of lock 3 by thread 1, takes a \
-         lock that is held already; release it before this line.\n",
+         lock that another thread holds; it has to be released before this line.\n",
+    ),
+    (
+        "explain",
+        SIXTEEN,
+        Some("00050002"),
+        "refused: number 20, line 16 [15] of the recording, acquire of lock 3 by thread 0, takes a \
+         lock that this thread holds 15 times already; hold it at most 15 times.\n",
     ),
     (
         "explain",
@@ -446,8 +498,8 @@ const LITERALS: [(&str, &str, Option<&str>, &str); 25] = [
     ),
 ];
 
-/// H, I, and a left frame that is refused before a right line.
-const LITERAL_PAIRS: [(&str, &str, &str); 3] = [
+/// H, I, a left frame that is refused before a right line, and a lock taken too often.
+const LITERAL_PAIRS: [(&str, &str, &str); 4] = [
     ("03000000 03010001", "03010001 03000000", "equal\n"),
     ("03000000 03010000", "03010000 03000000", "not equal\n"),
     (
@@ -455,6 +507,12 @@ const LITERAL_PAIRS: [(&str, &str, &str); 3] = [
         "x",
         "refused: number 4, line 2 [1] of the left recording has an operation other than 01 to \
          06; mend its digits 1 and 2.\n",
+    ),
+    (
+        FIFTEEN,
+        SIXTEEN,
+        "refused: number 20, line 16 [15] of the right recording, acquire of lock 3 by thread 0, \
+         takes a lock that this thread holds 15 times already; hold it at most 15 times.\n",
     ),
 ];
 
@@ -479,7 +537,7 @@ fn literals(tool: &mut Tool) -> Done {
 
 /// The lines of recordings A, E, G and D, of others, and of each refusal; the texts of
 /// docs/TOOL.md.
-const LITERAL_LINES: [(&str, &str); 32] = [
+const LITERAL_LINES: [(&str, &str); 33] = [
     (
         "00000300FFFFFFFF0000000000000000",
         "reducible: no frame goes wrong; frames: 3.\n",
@@ -494,8 +552,8 @@ const LITERAL_LINES: [(&str, &str); 32] = [
          The block begins at line 1 [0].\n  \
          It commits at line 4 [3].\n  \
          It goes wrong at line 5 [4].\n  \
-         A block takes no lock after its commit, here lock 0: between these lines another thread \
-         may change what the block has read or written.\n",
+         A block takes no new lock after its commit, here lock 0: between these lines another \
+         thread may change what the block has read or written.\n",
     ),
     (
         "03000401000000030000000000000000",
@@ -503,7 +561,7 @@ const LITERAL_LINES: [(&str, &str); 32] = [
          The block begins at line 1 [0].\n  \
          It commits at line 4 [3].\n  \
          It goes wrong at line 5 [4].\n  \
-         A block takes no lock after its commit, here lock none: between these lines another \
+         A block takes no new lock after its commit, here lock none: between these lines another \
          thread may change what the block has read or written.\n",
     ),
     (
@@ -578,8 +636,8 @@ const LITERAL_LINES: [(&str, &str); 32] = [
     ),
     (
         "87000100FFFFFFFF0000000000000000",
-        "refused: number 7, line 2 [1] of the recording takes a lock that is held already; \
-         release it before this line.\n",
+        "refused: number 7, line 2 [1] of the recording takes a lock that another thread holds; it \
+         has to be released before this line.\n",
     ),
     (
         "88000100FFFFFFFF0000000000000000",
@@ -635,8 +693,13 @@ const LITERAL_LINES: [(&str, &str); 32] = [
          them.\n",
     ),
     (
-        "94000000FFFFFFFF0000000000000000",
-        "refused: number 20, which this check does not give; its place is 0.\n",
+        "94000F00FFFFFFFF0000000000000000",
+        "refused: number 20, line 16 [15] of the recording takes a lock that its thread holds 15 \
+         times already; hold it at most 15 times.\n",
+    ),
+    (
+        "95000000FFFFFFFF0000000000000000",
+        "refused: number 21, which this check does not give; its place is 0.\n",
     ),
     (
         "FFFFFFFFFFFFFFFFFFFFFFFFFFFFFFFF",
@@ -750,6 +813,11 @@ fn worked_recordings(tool: &mut Tool) -> Done {
         SHARED,
         &fifteen,
         &sixteen,
+        AGAIN,
+        AGAIN_UNITS,
+        FIFTEEN,
+        SIXTEEN,
+        "01000003 01000003 02000003 01010003",
         "05000000",
         "0100003F 030003FF",
         "01000040",
@@ -782,6 +850,7 @@ fn refused_texts() -> Vec<Vec<u8>> {
         J[1],
         &"051F0000 ".repeat(16),
         "05000000 06000000 06000000",
+        SIXTEEN,
     ] {
         texts.push(text(words));
     }
