@@ -70,7 +70,9 @@ uint8_t trace_inferred(const uint32_t *words, size_t words_len, uint64_t *sets, 
 /*
  * Whether exchanges of independent neighbours turn the left recording into the right one.
  * Without a refusal the reply is 1 if they do and 0 if not; recordings of different length are
- * not equal.
+ * not equal. Frames of different threads are independent if they do not name the same lock or the
+ * same variable, and so are reads of one variable; a read and a write of it, or two writes, are
+ * not.
  * Refusals in order: left_len is above 4,096 (2, place 4096) and the first frame of left that
  * fails (4 to 10 or 20, place: frame); then the same of right, with 256 added to the number. Both
  * are checked whole, whatever their lengths.

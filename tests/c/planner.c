@@ -287,6 +287,17 @@ static const uint32_t words_h[] = {0x03000000, 0x03010001};
 static const uint32_t reverse_h[] = {0x03010001, 0x03000000};
 static const uint32_t words_i[] = {0x03000000, 0x03010000};
 static const uint32_t reverse_i[] = {0x03010000, 0x03000000};
+/* Each row of O is a recording and the one that it is compared with. */
+static const uint32_t words_o[][2][3] = {
+    {{0x03000000, 0x03010000, 0x04020000}, {0x03010000, 0x03000000, 0x04020000}},
+    {{0x03000000, 0x03010000, 0x04020000}, {0x03000000, 0x04020000, 0x03010000}},
+    {{0x03000000, 0x03010000, 0x04020000}, {0x03010000, 0x04020000, 0x03000000}},
+    {{0x03000000, 0x04010000}, {0x04010000, 0x03000000}},
+    {{0x04000000, 0x04010000}, {0x04010000, 0x04000000}},
+    {{0x03000000, 0x03000001}, {0x03000001, 0x03000000}},
+};
+static const size_t length_o[] = {3, 3, 3, 2, 2, 2};
+static const uint64_t reply_o[] = {1, 0, 0, 0, 0, 0};
 static const uint32_t begin_alone[] = {0x05000000};
 /* Variable 5 under locks {1,2}, then {2,3}, then {3}. */
 static const uint32_t words_shared[] = {0x01000001, 0x01000002, 0x03000005, 0x02000001,
@@ -550,8 +561,14 @@ int main(void)
 
     /* trace_equal */
     CHECK(equals_to(words_h, 2, reverse_h, 2, 1));
-    CHECK(equals_to(words_i, 2, reverse_i, 2, 0));
+    CHECK(equals_to(words_i, 2, reverse_i, 2, 1));
     CHECK(equals_to(words_i, 2, words_i, 2, 1));
+    for (size_t row = 0; row < COUNT(words_o); row++) {
+        const uint32_t *left = words_o[row][0], *right = words_o[row][1];
+        size_t length = length_o[row];
+        CHECK(equals_to(left, length, right, length, reply_o[row]));
+        CHECK(equals_to(right, length, left, length, reply_o[row]));
+    }
     CHECK(equals_to(words_c, COUNT(words_c), serial_c, COUNT(serial_c), 1));
     CHECK(equals_to(words_c, COUNT(words_c), serial_c, COUNT(serial_c) - 1, 0));
     CHECK(equals_to(words_c, 0, serial_c, 0, 1));

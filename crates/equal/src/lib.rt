@@ -21,8 +21,7 @@ pub enum EqualReply {
 }
 
 // Whether two sound recordings are equal. Each frame of the left is matched with the next of its thread in the right. These must be the
-// same, and two frames that name one lock or one variable must be matched in the same order. A word that is no frame is refused; the check
-// before has found none.
+// same, and two frames that clash must be matched in the same order. A word that is no frame is refused; the check before has found none.
 fn same(left: &[u32], right: &[u32]) -> EqualReply
     requires { ⌜ checkReply (now left) ≡ sound ⌝ ∗ ⌜ checkReply (now right) ≡ sound ⌝ }
     ensures { λ r. ⌜ r ≡ yesOrNo (equalWords (now (left .entry)) (now (right .entry))) ⌝ }
@@ -32,7 +31,8 @@ fn same(left: &[u32], right: &[u32]) -> EqualReply
     }
     let mut next = [0usize; THREADS];
     let mut locks = [0u32; LOCKS];
-    let mut variables = [0u32; VARIABLES];
+    let mut writes = [0u32; VARIABLES];
+    let mut accesses = [0u32; VARIABLES];
     let mut i: usize = 0;
     while i < left.len() {
         let w = left[i];
@@ -57,7 +57,7 @@ fn same(left: &[u32], right: &[u32]) -> EqualReply
         }
         let a = f.action;
         let q = (p + 1) as u32;
-        if !matching::note_last(&mut locks, &mut variables, a, q) {
+        if !matching::note_last(&mut locks, &mut writes, &mut accesses, a, q) {
             return EqualReply::Different;
         }
         next[t] = p + 1;

@@ -99,6 +99,9 @@ caseL = 0x05000000 ∷ 0x01000000 ∷ 0x01000001 ∷ 0x02000000 ∷ 0x01000001 �
 abbrev pub caseM : List ℕ
 caseM = 0x01000000 ∷ 0x05000000 ∷ 0x01000000 ∷ 0x02000000 ∷ 0x01000001 ∷ 0x02000001 ∷ 0x06000000 ∷ 0x02000000 ∷ []
 
+abbrev pub caseO : List ℕ
+caseO = 0x03000000 ∷ 0x03010000 ∷ 0x04020000 ∷ []
+
 abbrev pub rows : List Row
 rows =
     -- A: the text and the answer of docs/FORMAT.md, each line with its LF
@@ -126,9 +129,10 @@ rows =
     ∷ declared [] (0x05000000 ∷ 0x03000005 ∷ 0x06000000 ∷ []) (fields 0 3 0 absent absent 0)
     -- G, with guard 00050002: kind 1, locks 4
     ∷ declared (0x00050002 ∷ []) (0x03000005 ∷ []) (fields 1 0 0 absent absent 4)
-    -- H and its reverse: equal. I and its reverse: not.
+    -- H and its reverse: equal
     ∷ equal (0x03000000 ∷ 0x03010001 ∷ []) (0x03010001 ∷ 0x03000000 ∷ [])
-    ∷ different (0x03000000 ∷ 0x03010000 ∷ []) (0x03010000 ∷ 0x03000000 ∷ [])
+    -- I and its reverse: equal. "Reads of one variable by different threads are independent too"
+    ∷ equal (0x03000000 ∷ 0x03010000 ∷ []) (0x03010000 ∷ 0x03000000 ∷ [])
     -- J: refusal 7 at 1; 8 at 1
     ∷ inferred (0x01000003 ∷ 0x01010003 ∷ []) (fields 0x87 1 0 absent absent 0)
     ∷ inferred (0x01000003 ∷ 0x02010003 ∷ []) (fields 0x88 1 0 absent absent 0)
@@ -146,6 +150,14 @@ rows =
     ∷ inferred (replicate 16 0x01000003) (fields 0x94 15 0 absent absent 0)
     ∷ inferred (0x01000003 ∷ 0x01000003 ∷ 0x02000003 ∷ 0x01010003 ∷ []) (fields 0x87 3 0 absent absent 0)
     ∷ inferred (0x01000003 ∷ 0x01000003 ∷ 0x02000003 ∷ 0x02000003 ∷ 0x02000003 ∷ []) (fields 0x88 4 0 absent absent 0)
+    -- O: two reads before a write exchanged: equal; either of them moved behind the write: not
+    ∷ equal caseO (0x03010000 ∷ 0x03000000 ∷ 0x04020000 ∷ [])
+    ∷ different caseO (0x03000000 ∷ 0x04020000 ∷ 0x03010000 ∷ [])
+    ∷ different caseO (0x03010000 ∷ 0x04020000 ∷ 0x03000000 ∷ [])
+    -- a read and a write, two writes, two reads of one thread, with their reverse: not equal
+    ∷ different (0x03000000 ∷ 0x04010000 ∷ []) (0x04010000 ∷ 0x03000000 ∷ [])
+    ∷ different (0x04000000 ∷ 0x04010000 ∷ []) (0x04010000 ∷ 0x04000000 ∷ [])
+    ∷ different (0x03000000 ∷ 0x03000001 ∷ []) (0x03000001 ∷ 0x03000000 ∷ [])
     ∷ []
 
 abbrev pub AllRowsHold : Type 0

@@ -1,5 +1,6 @@
-//! Recordings and guard lists at the limits: nesting, locks, locks taken again, threads, candidate
-//! sets. Places and lengths of a text that is written, and the fields of a verdict line, at theirs.
+//! Recordings and guard lists at the limits: nesting, locks, locks taken again, threads, reads,
+//! candidate sets. Places and lengths of a text that is written, and the fields of a verdict line,
+//! at theirs.
 
 use crate::random::{damage_text, Random, Recording};
 use crate::{Fields, VARIABLES};
@@ -291,6 +292,19 @@ pub fn alternation(random: &mut Random, blocks: usize, steps: usize) -> Recordin
         words,
         guards: guarded.chain(unprotected).collect(),
     }
+}
+
+// Reads.
+
+/// So many frames of one variable: all threads but the last read it in turn, and the last one
+/// writes it at these places.
+pub fn readers(variable: u32, frames: usize, writes: &[usize]) -> Vec<u32> {
+    let read = |place| word(READ, place as u32 % (THREADS - 1), variable);
+    let mut words: Vec<u32> = (0..frames).map(read).collect();
+    for &place in writes {
+        words[place] = word(WRITE, THREADS - 1, variable);
+    }
+    words
 }
 
 // Guard lists and candidate sets.

@@ -3,7 +3,7 @@
 
 use crate::holds::{has_inner_pair, shown, SHOWN};
 use crate::random::Random;
-use crate::{Fields, FieldsOut, Refusal, ABSENT, LINE_BYTES, VARIABLES};
+use crate::{reads, Fields, FieldsOut, Refusal, ABSENT, LINE_BYTES, VARIABLES};
 use std::fmt;
 
 /// Elements on both sides of each buffer, which no call may touch.
@@ -499,7 +499,7 @@ pub fn frames(words: &str) -> Vec<u32> {
 // Counts.
 
 /// So many frames are near the limit of the length.
-const LONG: usize = 4000;
+pub const LONG: usize = 4000;
 
 /// Boundaries of the calls that write a text, and read or write a verdict line; all must be met.
 pub const EDGES: [&str; 15] = [
@@ -544,6 +544,8 @@ pub struct Tally {
     /// Recordings near the limit of the length that are equal in another order, or have a serial
     /// order that is not the recording.
     pub long_moved: usize,
+    /// As in `reads::SHOWN`.
+    pub reads: [usize; reads::SHOWN.len()],
     /// Texts and verdict lines that were written and read again, or the other way round.
     pub came_back: usize,
     /// As in `EDGES`.
@@ -587,6 +589,10 @@ impl Tally {
             self.moved[0] += usize::from(moved);
             self.moved[1] += usize::from(kind == 0 && same_length);
             self.long_moved += usize::from(moved && case.frames.len() >= LONG);
+            let shown = reads::shown(&case.frames, &case.right, kind == 1);
+            for (count, met) in self.reads.iter_mut().zip(shown) {
+                *count += usize::from(met);
+            }
         } else if case.call.is_serial() {
             let moved = outcome.written() != case.frames;
             self.moved[2] += usize::from(moved);
@@ -635,6 +641,7 @@ impl Tally {
         add(&mut self.shown, &other.shown);
         add(&mut self.shapes, &other.shapes);
         add(&mut self.moved, &other.moved);
+        add(&mut self.reads, &other.reads);
         add(&mut self.edges, &other.edges);
         self.cases += other.cases;
         self.came_back += other.came_back;

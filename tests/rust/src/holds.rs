@@ -77,7 +77,7 @@ pub fn shown(words: &[u32], reply: Result<bool, Refusal>) -> [bool; SHOWN.len()]
                 let before = lock.at_begin > 0 && lock.count >= lock.at_begin;
                 shown[4] |= reducible && inside && before;
             }
-            Action::Access(_) => {
+            Action::Read(_) | Action::Write(_) => {
                 let more = |lock: &Lock| lock.owner == thread && lock.count > 1;
                 shown[1] |= locks.values().any(more);
             }

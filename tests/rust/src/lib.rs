@@ -8,6 +8,7 @@ pub mod holds;
 pub mod plain;
 pub mod random;
 pub mod random_case;
+pub mod reads;
 pub mod table;
 pub mod words;
 
@@ -101,7 +102,8 @@ enum Action {
     InnerAcquire(u16),
     /// Of a lock that its thread still holds after.
     InnerRelease(u16),
-    Access(u16),
+    Read(u16),
+    Write(u16),
     Begin,
     End,
 }
@@ -118,7 +120,8 @@ fn frame_of_word(word: u32) -> Result<Frame, u8> {
     let (action, most) = match operation {
         1 => (Action::Acquire(object), MOST_LOCK),
         2 => (Action::Release(object), MOST_LOCK),
-        3 | 4 => (Action::Access(object), MOST_VARIABLE),
+        3 => (Action::Read(object), MOST_VARIABLE),
+        4 => (Action::Write(object), MOST_VARIABLE),
         5 => (Action::Begin, 0),
         6 => (Action::End, 0),
         _ => return Err(4),
@@ -294,7 +297,9 @@ fn judge(frames: &[Frame], guards: &mut Guards) -> Verdict {
                 thread.commit_at(place);
             }
             Action::InnerAcquire(_) | Action::InnerRelease(_) => {}
-            Action::Access(variable) => wrong = guards.access(thread, variable, place),
+            Action::Read(variable) | Action::Write(variable) => {
+                wrong = guards.access(thread, variable, place);
+            }
             Action::Begin => match &mut thread.block {
                 Some(block) => block.depth += 1,
                 None => {
@@ -345,33 +350,46 @@ pub fn inferred_verdict(frames: &[Frame]) -> (Verdict, [u64; VARIABLES]) {
 
 // Equality.
 
-#[derive(Clone, Copy, PartialEq, Eq, PartialOrd, Ord)]
-enum Item {
-    Thread(u8),
-    Lock(u16),
-    Variable(u16),
+/// The accesses of one variable.
+#[derive(Default, PartialEq, Eq)]
+struct Accesses {
+    /// In recorded order.
+    writes: Vec<u32>,
+    /// How often each read stands behind so many writes.
+    reads: BTreeMap<(usize, u32), usize>,
 }
 
-/// The thread of a frame, and the lock or variable that it touches.
-fn items(frame: Frame) -> impl Iterator<Item = Item> {
-    let touched = match frame.action {
-        Action::Acquire(lock) | Action::Release(lock) => Some(Item::Lock(lock)),
-        Action::InnerAcquire(lock) | Action::InnerRelease(lock) => Some(Item::Lock(lock)),
-        Action::Access(variable) => Some(Item::Variable(variable)),
-        Action::Begin | Action::End => None,
-    };
-    [Some(Item::Thread(frame.thread)), touched]
-        .into_iter()
-        .flatten()
+/// The frames of each thread and of each lock in recorded order, and the accesses of each
+/// variable. Two recordings are equal exactly if these agree: no exchange changes them, and of two
+/// frames that are not independent they tell which comes first, be these of one thread, of one
+/// lock, two writes of one variable, or a read and a write of it.
+#[derive(Default, PartialEq, Eq)]
+struct Projections {
+    threads: BTreeMap<u8, Vec<u32>>,
+    locks: BTreeMap<u16, Vec<u32>>,
+    variables: BTreeMap<u16, Accesses>,
 }
 
-/// The frames of each item in recorded order. Two recordings are equal exactly if these agree:
-/// frames are dependent exactly if they have an item in common.
-fn projections(words: &[u32], frames: &[Frame]) -> BTreeMap<Item, Vec<u32>> {
-    let mut projections: BTreeMap<Item, Vec<u32>> = BTreeMap::new();
-    for (&word, &frame) in words.iter().zip(frames) {
-        for item in items(frame) {
-            projections.entry(item).or_default().push(word);
+fn projections(words: &[u32], frames: &[Frame]) -> Projections {
+    let mut projections = Projections::default();
+    let Projections {
+        threads,
+        locks,
+        variables,
+    } = &mut projections;
+    for (&word, frame) in words.iter().zip(frames) {
+        threads.entry(frame.thread).or_default().push(word);
+        match frame.action {
+            Action::Acquire(lock)
+            | Action::Release(lock)
+            | Action::InnerAcquire(lock)
+            | Action::InnerRelease(lock) => locks.entry(lock).or_default().push(word),
+            Action::Read(variable) => {
+                let Accesses { writes, reads } = variables.entry(variable).or_default();
+                *reads.entry((writes.len(), word)).or_default() += 1;
+            }
+            Action::Write(variable) => variables.entry(variable).or_default().writes.push(word),
+            Action::Begin | Action::End => {}
         }
     }
     projections
@@ -388,7 +406,11 @@ pub fn independent(left: u32, right: u32) -> bool {
                 Action::Acquire(left) | Action::Release(left),
                 Action::Acquire(right) | Action::Release(right),
             ) => left != right,
-            (Action::Access(left), Action::Access(right)) => left != right,
+            (Action::Read(_), Action::Read(_)) => true,
+            (
+                Action::Read(left) | Action::Write(left),
+                Action::Read(right) | Action::Write(right),
+            ) => left != right,
             _ => true,
         }
 }
@@ -445,7 +467,7 @@ fn serial_places(
             Action::Acquire(_) => (depth, false),
             Action::Release(_) => (depth, true),
             Action::InnerAcquire(_) | Action::InnerRelease(_) => (depth, false),
-            Action::Access(variable) => (depth, unprotected(variable)),
+            Action::Read(variable) | Action::Write(variable) => (depth, unprotected(variable)),
         };
         // The end of a block and a single frame commit what did not commit before.
         if commits || depth == 0 {

@@ -15,6 +15,7 @@ const TEXT_LINE: usize = 9;
 const ABSENT: u16 = 0xFFFF;
 const NOT_A_DIGIT: u8 = 0xFF;
 const DIGITS: [u8; 16] = *b"0123456789ABCDEF";
+const READ: u32 = 3;
 
 /// The value of each digit byte.
 const DIGIT: [u8; 256] = {
@@ -279,56 +280,47 @@ fn touched(word: u32) -> Option<usize> {
     }
 }
 
-/// Places of one recording in lists: a head for each item, the next place for each place.
-struct Lists<const ITEMS: usize> {
-    heads: [u16; ITEMS],
-    next: [u16; MOST_FRAMES],
+/// The first place behind the matched writes of a lock or variable, and behind all its matched
+/// frames. Every frame of a lock counts as a write.
+#[derive(Clone, Copy)]
+struct Matched {
+    writes: u16,
+    all: u16,
 }
 
-impl<const ITEMS: usize> Lists<ITEMS> {
-    fn new() -> Self {
-        Lists {
-            heads: [ABSENT; ITEMS],
-            next: [ABSENT; MOST_FRAMES],
-        }
-    }
-
-    fn push_front(&mut self, item: usize, place: usize) {
-        self.next[place] = self.heads[item];
-        self.heads[item] = place as u16;
-    }
-
-    fn pop_front(&mut self, item: usize) {
-        self.heads[item] = self.next[usize::from(self.heads[item])];
-    }
-}
-
-/// Both are sound. Each frame of the right must be the first one left of its thread and of what
-/// it touches.
+/// Both are sound. Each frame of the right is matched with the first one left of its thread. That
+/// must be the same word, and stand behind all matched frames of what it touches, or behind the
+/// writes if it is a read.
 fn same_order(left: &[u32], right: &[u32]) -> bool {
     if left.len() != right.len() {
         return false;
     }
-    let mut by_thread = Lists::<THREADS>::new();
-    let mut by_touched = Lists::<{ LOCKS + VARIABLES }>::new();
+    // The first place left of each thread, and the next place of the same thread.
+    let mut first = [ABSENT; THREADS];
+    let mut next = [ABSENT; MOST_FRAMES];
     for (place, &word) in left.iter().enumerate().rev() {
-        by_thread.push_front((word >> 16 & 31) as usize, place);
-        if let Some(item) = touched(word) {
-            by_touched.push_front(item, place);
-        }
+        let first = &mut first[(word >> 16 & 31) as usize];
+        next[place] = *first;
+        *first = place as u16;
     }
+    let mut matched = [Matched { writes: 0, all: 0 }; LOCKS + VARIABLES];
     for &word in right {
-        let thread = (word >> 16 & 31) as usize;
-        let place = by_thread.heads[thread];
+        let first = &mut first[(word >> 16 & 31) as usize];
+        let place = *first;
         if left.get(usize::from(place)) != Some(&word) {
             return false;
         }
-        by_thread.pop_front(thread);
+        *first = next[usize::from(place)];
         if let Some(item) = touched(word) {
-            if by_touched.heads[item] != place {
+            let Matched { writes, all } = &mut matched[item];
+            let reads = word >> 24 == READ;
+            if place < if reads { *writes } else { *all } {
                 return false;
             }
-            by_touched.pop_front(item);
+            *all = (place + 1).max(*all);
+            if !reads {
+                *writes = place + 1;
+            }
         }
     }
     true

@@ -420,6 +420,43 @@ pub fn taken_again(random: &mut Random) -> Vec<u32> {
     reschedule(random, &words)
 }
 
+/// So many frames: threads read a few variables and write them now and then. In some recordings
+/// they also take two locks and let them go, begin and end.
+pub fn shared_reads(random: &mut Random, threads: usize, frames: usize) -> Vec<u32> {
+    let threads = random.names(threads, 32);
+    let (count, limit) = (random.between(1, 3), random.pick(&[3, 64, 1024]));
+    let variables = random.names(count, limit);
+    let writes = random.pick(&[30, 150, 400]);
+    let others = random.pick(&[0, 100, 300]);
+    let mut owners = [None; 2];
+    let mut inside = vec![false; threads.len()];
+    let mut step = |_| {
+        let number = random.below(threads.len());
+        let (operation, object) = if random.chance(others) {
+            let lock = random.below(owners.len());
+            match owners[lock] {
+                None => {
+                    owners[lock] = Some(number);
+                    (1, lock as u32)
+                }
+                Some(owner) if owner == number => {
+                    owners[lock] = None;
+                    (2, lock as u32)
+                }
+                Some(_) => {
+                    inside[number] ^= true;
+                    (if inside[number] { 5 } else { 6 }, 0)
+                }
+            }
+        } else {
+            let operation = if random.chance(writes) { 4 } else { 3 };
+            (operation, random.pick(&variables))
+        };
+        operation << 24 | threads[number] << 16 | object
+    };
+    (0..frames).map(&mut step).collect()
+}
+
 /// Units of several threads under at most eight locks, interleaved at random: reducible, and
 /// every block is closed.
 pub fn interleaved(random: &mut Random, units: usize, unprotected: bool) -> Recording {
@@ -491,6 +528,29 @@ pub fn forbidden_exchange(random: &mut Random, words: &mut [u32]) {
         let any = random.pick(&places);
         let place = random.pick(&[first, last, any, any]);
         words.swap(place - 1, place);
+    }
+}
+
+/// Moves one read across writes of its variable by other threads, if there are any that it meets
+/// before a frame of its own thread.
+pub fn pass_writes(random: &mut Random, words: &mut [u32]) {
+    let mut moves = Vec::new();
+    let reads = words.iter().enumerate();
+    for (from, &read) in reads.filter(|(_, word)| *word >> 24 == 3) {
+        let other_thread = |&to: &usize| words[to] >> 16 & 255 != read >> 16 & 255;
+        let writes = |&to: &usize| words[to] >> 24 == 4 && words[to] as u16 == read as u16;
+        let behind = (from + 1..words.len()).take_while(other_thread);
+        let before = (0..from).rev().take_while(other_thread);
+        moves.extend(behind.chain(before).filter(writes).map(|to| (from, to)));
+    }
+    if moves.is_empty() {
+        return;
+    }
+    let (from, to) = random.pick(&moves);
+    if from < to {
+        words[from..=to].rotate_left(1);
+    } else {
+        words[to..=from].rotate_right(1);
     }
 }
 

@@ -129,15 +129,21 @@ pub fn random_right(random: &mut Random, left: &[u32]) -> Vec<u32> {
     }
     random::exchange(random, &mut right, sweeps);
     let place = random.below(right.len().max(1));
-    match random.below(12) {
+    match random.below(14) {
         0..5 => {}
         5..8 => {
             random::forbidden_exchange(random, &mut right);
             random::exchange(random, &mut right, sweeps);
         }
-        8..10 => right = random::reschedule(random, left),
+        8..10 => {
+            for _ in 0..random.pick(&[1, 1, 2]) {
+                random::pass_writes(random, &mut right);
+            }
+            random::exchange(random, &mut right, sweeps);
+        }
+        10..12 => right = random::reschedule(random, left),
         // Another operation or object, or another length: sound in some cases.
-        10 if !right.is_empty() => right[place] ^= random.pick(&[1, 2, 7 << 24, 1 << 16]),
+        12 if !right.is_empty() => right[place] ^= random.pick(&[1, 2, 7 << 24, 1 << 16]),
         _ => match random.below(4) {
             0 => right.insert(place, 0x0300_0000 | random.below(4) as u32),
             1 => right.truncate(place),
@@ -155,6 +161,13 @@ fn random_pair(random: &mut Random, long: bool) -> (Vec<u32>, Vec<u32>) {
         left.words = random::interleaved(random, 6, true).words;
     }
     let mut left = left.words;
+    if random.chance(if long { 400 } else { 300 }) {
+        let (threads, frames) = match long {
+            true => (random.between(2, 32), random.between(4090, 4096)),
+            false => (random.between(2, 6), random.between(0, 60)),
+        };
+        left = random::shared_reads(random, threads, frames);
+    }
     let mut right = match random.below(20) {
         0 => random_units(random, Call::Equal, long).words,
         _ => random_right(random, &left),

@@ -2,6 +2,7 @@
 
 use crate::case::{Call, Tally, CALLS, EDGES};
 use crate::holds::SHOWN;
+use crate::reads;
 
 /// A tally for each call.
 pub type Tallies = [Tally; CALLS.len()];
@@ -151,19 +152,21 @@ pub fn print_inner(tallies: &Tallies) -> bool {
     complete
 }
 
-/// The boundaries of texts and verdict lines, and of locks taken again; false if one was not met.
+/// The boundaries of texts and verdict lines, of locks taken again, and of exchanged reads; false
+/// if one was not met.
 pub fn print_edges<'a>(tallies: impl IntoIterator<Item = &'a Tally>) -> bool {
     let mut all = Tally::default();
     tallies.into_iter().for_each(|tally| all.add(tally));
     let edges = EDGES.iter().zip(all.edges);
     let shown = SHOWN.iter().zip(all.shown);
+    let reads = reads::SHOWN.iter().zip(all.reads);
     let mut complete = true;
-    for (name, count) in edges.chain(shown) {
+    for (name, count) in edges.chain(shown).chain(reads) {
         println!("{name}: {count}");
         complete &= count > 0;
     }
     if !complete {
-        println!("FAILED: a boundary of texts, verdict lines or locks was not met");
+        println!("FAILED: a boundary of texts, verdict lines, locks or reads was not met");
     }
     complete
 }

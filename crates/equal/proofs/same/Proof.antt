@@ -16,10 +16,11 @@ use Rattle.equal.proofs.same.Statement.{statement}
 use Rattle.equal.proofs.same.Tie as tie
 
 abbrev Inv-loop : tie.InvT-loop
-Inv-loop left right next₀ locks₀ variables₀ i₀ next locks variables i = Walking left right i next (lastsOf locks variables)
+Inv-loop left right next₀ locks₀ writes₀ accesses₀ i₀ next locks writes accesses i =
+    Walking left right i next (lastsOf locks writes accesses)
 
 abbrev μ-loop : tie.MeasureT-loop
-μ-loop left right next₀ locks₀ variables₀ i₀ next locks variables i = length left - i
+μ-loop left right next₀ locks₀ writes₀ accesses₀ i₀ next locks writes accesses i = length left - i
 
 returns : tie.Need-returns Inv-loop μ-loop
 returns c = no _ _ (λ x. c .if1 .taken (exchanges-length apart x))
@@ -45,8 +46,8 @@ enum-told c = search needs
 refusal-of-requires : tie.Need-refusal-of-requires Inv-loop μ-loop
 refusal-of-requires c κs = search needs
 
-cast-t24 : tie.Need-cast-t24 Inv-loop μ-loop
-cast-t24 c =
+cast-t25 : tie.Need-cast-t25 Inv-loop μ-loop
+cast-t25 c =
     omega (arith, c .before .before .before .before .before .loop-test .taken, sound-fits (c .before .before .before .before .before .before .before .before .before .before .args .left .now) (c .before .before .before .before .before .before .before .before .before .before .pre .0))
 
 returns-2 : tie.Need-returns-2 Inv-loop μ-loop
@@ -90,11 +91,11 @@ cast-q c =
 
 note-last-requires : tie.Need-note-last-requires Inv-loop μ-loop
 note-last-requires c κs =
-    decoded-in-range _ _ (sym (c .before .before .before .before .before .before .before .before .before .before .before .decode .ensures) ∙ c .before .before .before .before .before .before .before .before .before .d .given .1) .object
+    decoded-in-range _ _ (sym (c .before .before .before .before .before .before .before .before .before .before .before .before .decode .ensures) ∙ c .before .before .before .before .before .before .before .before .before .before .d .given .1) .object
 
 returns-5 : tie.Need-returns-5 Inv-loop μ-loop
 returns-5 c =
-    too-early (c .before .before .before .before .before .before .before .before .before .before .before .before .before .before .before .before .loop .inv) (c .before .before .before .before .before .before .before .before .before .before .before .before .before .before .before .loop-test .taken) (sym (c .before .before .before .before .before .before .before .before .before .before .before .before .before .decode .ensures) ∙ c .before .before .before .before .before .before .before .before .before .before .before .d .given .1) (c .before .before .before .before .before .before .before .find .ensures) (ltb-false _ _ (sym (c .before .note-last .ensures .below) ∙ not-true _ (c .if4 .taken)))
+    too-early (c .before .before .before .before .before .before .before .before .before .before .before .before .before .before .before .before .before .loop .inv) (c .before .before .before .before .before .before .before .before .before .before .before .before .before .before .before .before .loop-test .taken) (sym (c .before .before .before .before .before .before .before .before .before .before .before .before .before .before .decode .ensures) ∙ c .before .before .before .before .before .before .before .before .before .before .before .before .d .given .1) (c .before .before .before .before .before .before .before .before .find .ensures) (ltb-false _ _ (sym (c .before .note-last .ensures .below) ∙ not-true _ (c .if4 .taken)))
 
 add-next : tie.Need-add-next Inv-loop μ-loop
 add-next c = search needs
@@ -104,7 +105,7 @@ mul-next c = search needs
 
 array-write-next : tie.Need-array-write-next Inv-loop μ-loop
 array-write-next c =
-    decoded-in-range _ _ (sym (c .before .before .before .before .before .before .before .before .before .before .before .before .before .decode .ensures) ∙ c .before .before .before .before .before .before .before .before .before .before .before .d .given .1) .thread
+    decoded-in-range _ _ (sym (c .before .before .before .before .before .before .before .before .before .before .before .before .before .before .decode .ensures) ∙ c .before .before .before .before .before .before .before .before .before .before .before .before .d .given .1) .thread
 
 add-i : tie.Need-add-i Inv-loop μ-loop
 add-i c = search needs
@@ -114,7 +115,7 @@ loop-less c = search needs
 
 loop-again : tie.Need-loop-again Inv-loop μ-loop
 loop-again c =
-    go-on (c .before .before .before .before .before .before .before .before .before .before .before .before .before .before .before .before .loop .inv) (c .before .before .before .before .before .before .before .before .before .before .before .before .before .before .before .loop-test .taken) (sym (c .before .before .before .before .before .before .before .before .before .before .before .before .before .decode .ensures) ∙ c .before .before .before .before .before .before .before .before .before .before .before .d .given .1) (c .before .before .before .before .before .before .before .find .ensures) (c .before .before .before .before .before .before .if2 .left) (c .before .before .before .before .if3 .left) (ltb-true _ _ (sym (c .before .note-last .ensures .below) ∙ not-false _ (c .if4 .left))) (c .before .note-last .ensures .noted)
+    go-on (c .before .before .before .before .before .before .before .before .before .before .before .before .before .before .before .before .before .loop .inv) (c .before .before .before .before .before .before .before .before .before .before .before .before .before .before .before .before .loop-test .taken) (sym (c .before .before .before .before .before .before .before .before .before .before .before .before .before .before .decode .ensures) ∙ c .before .before .before .before .before .before .before .before .before .before .before .before .d .given .1) (c .before .before .before .before .before .before .before .before .find .ensures) (c .before .before .before .before .before .before .before .if2 .left) (c .before .before .before .before .before .if3 .left) (ltb-true _ _ (sym (c .before .note-last .ensures .below) ∙ not-false _ (c .if4 .left))) (c .before .note-last .ensures .noted)
 
 returns-6 : tie.Need-returns-6 Inv-loop μ-loop
 returns-6 c = walk-end (c .before .before .before .before .before .pre .0) (c .before .loop .inv) (c .loop-test .left)
@@ -133,7 +134,7 @@ same-spec =
     enum-known-d
     enum-told
     refusal-of-requires
-    cast-t24
+    cast-t25
     returns-2
     cast-t
     mul-find

@@ -27,22 +27,22 @@ store-requires-2 c κs =
 enum-known-a-3 : tie.Need-enum-known-a-3
 enum-known-a-3 c = search needs
 
-cast-store-3 : tie.Need-cast-store-3
-cast-store-3 c = search needs
+cast-note-read : tie.Need-cast-note-read
+cast-note-read c = search needs
 
-store-requires-3 : tie.Need-store-requires-3
-store-requires-3 c κs =
-    omega (arith, rw (c .before .before .before .a3 .given .1) at (c .before .before .before .before .before .pre))
+note-read-requires : tie.Need-note-read-requires
+note-read-requires c κs =
+    (omega (arith, rw (c .before .before .before .before .before .a3 .given .1) at (c .before .before .before .before .before .before .before .pre)), omega (arith, rw (c .before .before .before .before .before .a3 .given .1) at (c .before .before .before .before .before .before .before .pre)))
 
 enum-known-a-4 : tie.Need-enum-known-a-4
 enum-known-a-4 c = search needs
 
-cast-store-4 : tie.Need-cast-store-4
-cast-store-4 c = search needs
+cast-note-write : tie.Need-cast-note-write
+cast-note-write c = search needs
 
-store-requires-4 : tie.Need-store-requires-4
-store-requires-4 c κs =
-    omega (arith, rw (c .before .before .before .a4 .given .1) at (c .before .before .before .before .before .pre))
+note-write-requires : tie.Need-note-write-requires
+note-write-requires c κs =
+    (omega (arith, rw (c .before .before .before .before .a4 .given .1) at (c .before .before .before .before .before .before .pre)), omega (arith, rw (c .before .before .before .before .a4 .given .1) at (c .before .before .before .before .before .before .pre)))
 
 enum-told : tie.Need-enum-told
 enum-told c = search needs
@@ -60,11 +60,11 @@ returns-2 c =
 
 returns-3 : tie.Need-returns-3
 returns-3 c =
-    rw (c .before .before .before .before .a3 .given .1) (record { below = c .store3 .ensures .below; noted = rw (c .store3 .ensures .stored) })
+    rw (c .before .before .before .before .before .before .a3 .given .1) (record { below = c .note-read .ensures .0; noted = rw (c .note-read .ensures .1) })
 
 returns-4 : tie.Need-returns-4
 returns-4 c =
-    rw (c .before .before .before .before .a4 .given .1) (record { below = c .store4 .ensures .below; noted = rw (c .store4 .ensures .stored) })
+    rw (c .before .before .before .before .before .a4 .given .1) (record { below = c .note-write .ensures .1 .below; noted = rw (c .note-write .ensures .0, c .note-write .ensures .1 .stored) })
 
 returns-5 : tie.Need-returns-5
 returns-5 c = rw (c .enum-told .given .1) (record { below = refl; noted = refl })
@@ -83,11 +83,11 @@ note-last-spec =
     cast-store-2
     store-requires-2
     enum-known-a-3
-    cast-store-3
-    store-requires-3
+    cast-note-read
+    note-read-requires
     enum-known-a-4
-    cast-store-4
-    store-requires-4
+    cast-note-write
+    note-write-requires
     enum-told
     enum-told-2
     returns

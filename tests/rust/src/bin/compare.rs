@@ -3,7 +3,9 @@
 //! Arguments: an optional seed.
 
 use std::process::exit;
-use trace_tests::adversarial::{near_lines, rooms, EDGE_KINDS, EDGE_PLACES};
+use trace_tests::adversarial::{
+    near_lines, readers, rooms, word, EDGE_KINDS, EDGE_PLACES, READ, THREADS, WRITE,
+};
 use trace_tests::case::{
     frames, text, Call, Case, Implementation, Outcome, Tally, CALLS, MARGIN, REFERENCE,
 };
@@ -11,7 +13,7 @@ use trace_tests::holds::has_inner_pair;
 use trace_tests::random::{self, text_of_words, Random};
 use trace_tests::random_case::{random_case, random_recording, random_right};
 use trace_tests::table::print_edges;
-use trace_tests::{brute_equal, equal, plain, Fields, LINE_BYTES, VARIABLES};
+use trace_tests::{brute_equal, equal, plain, reads, Fields, LINE_BYTES, MOST_FRAMES, VARIABLES};
 
 #[path = "../ffi.rs"]
 mod ffi;
@@ -185,6 +187,13 @@ impl Literals {
         self.equal_raw(&frames(right), &frames(left), reply);
     }
 
+    /// Each right recording with its reply.
+    fn equal_each(&mut self, left: &str, rights: &[(&str, u64)]) {
+        for &(right, reply) in rights {
+            self.equal(left, right, reply);
+        }
+    }
+
     fn equal_raw(&mut self, left: &[u32], right: &[u32], reply: u64) {
         let mut case = Case::new(Call::Equal);
         (case.frames, case.right) = (left.to_vec(), right.to_vec());
@@ -335,7 +344,7 @@ fn worked_recordings(to: &mut Literals) {
         "00000300FFFFFFFF0000000000000000",
     );
     to.declared("00050002", "03000005", "01000000FFFFFFFF0000000000000004");
-    // J; H and I concern equality alone, as below
+    // J; H, I and O concern equality alone, as below
     to.refused("01000003 01010003", "87000100FFFFFFFF0000000000000000");
     to.refused("01000003 02010003", "88000100FFFFFFFF0000000000000000");
     // Variable 5 under locks {1,2}, then {2,3}, then {3}
@@ -525,8 +534,7 @@ fn equal_recordings(to: &mut Literals) {
     // B, H, I
     to.equal("", "", 1);
     to.equal("03000000 03010001", "03010001 03000000", 1);
-    to.equal("03000000 03010000", "03010000 03000000", 0);
-    to.equal("04000000 04010000", "04010000 04000000", 0);
+    to.equal("03000000 03010000", "03010000 03000000", 1);
     // C and its serial order
     let c = "05000000 05010000 01000000 04000000 02000000 01010000 04010000 06000000 \
              02010000 06010000";
@@ -542,7 +550,6 @@ fn equal_recordings(to: &mut Literals) {
         1,
     );
     // One thread keeps its order; begin and end touch nothing.
-    to.equal("03000000 03000001", "03000001 03000000", 0);
     to.equal("05000000 03000000", "03000000 05000000", 0);
     to.equal("05000000 05010000", "05010000 05000000", 1);
     // One lock: the other thread's pair does not pass.
@@ -578,9 +585,14 @@ fn equal_recordings(to: &mut Literals) {
     );
     // The frames between must pass as well.
     to.equal(
+        "04000000 04010000 04010001 04020001",
+        "04020001 04000000 04010000 04010001",
+        0,
+    );
+    to.equal(
         "03000000 03010000 03010001 03020001",
         "03020001 03000000 03010000 03010001",
-        0,
+        1,
     );
     to.equal(
         "03000000 03010001 03020002",
@@ -630,6 +642,251 @@ fn equal_recordings(to: &mut Literals) {
         to.equal_raw(&words, &words, left(number, place));
         to.equal_raw(&words, &[0xFFFF_FFFF], left(number, place));
         to.equal_raw(&words, &more, left(number, place));
+    }
+}
+
+/// Reads of one variable by different threads pass each other; a write of it passes no access.
+fn exchanged_reads(to: &mut Literals) {
+    // O
+    to.equal_each(
+        "03000000 03010000 04020000",
+        &[
+            ("03010000 03000000 04020000", 1),
+            ("03000000 04020000 03010000", 0),
+            ("03010000 04020000 03000000", 0),
+        ],
+    );
+    to.equal("03000000 04010000", "04010000 03000000", 0);
+    to.equal("04000000 04010000", "04010000 04000000", 0);
+    to.equal("03000000 03000001", "03000001 03000000", 0);
+    // The places of reads fall, rise or are mixed, before a write that stands behind all of them or
+    // before the last.
+    to.equal_each(
+        "03000000 03010000 03020000 04030000",
+        &[
+            ("03020000 03010000 03000000 04030000", 1),
+            ("03010000 03020000 03000000 04030000", 1),
+            ("03000000 03020000 03010000 04030000", 1),
+        ],
+    );
+    to.equal_each(
+        "03000000 03010000 04030000 03020000",
+        &[
+            ("03020000 03010000 03000000 04030000", 0),
+            ("03000000 03010000 03020000 04030000", 0),
+            ("03000000 03020000 03010000 04030000", 0),
+            ("03010000 03000000 04030000 03020000", 1),
+            // Reads on the two sides of the write.
+            ("03000000 03020000 04030000 03010000", 0),
+        ],
+    );
+    // The reads of one thread keep their sequence, with another's between too; those of one
+    // variable are the same frame, and are counted.
+    to.equal_each(
+        "03000000 03010000 03000001 03010001",
+        &[
+            ("03010000 03010001 03000000 03000001", 1),
+            ("03000001 03010000 03000000 03010001", 0),
+        ],
+    );
+    to.equal_each(
+        "03000000 03000000 04010000 03000000 03020000",
+        &[
+            ("03000000 03000000 04010000 03020000 03000000", 1),
+            ("03000000 04010000 03000000 03020000 03000000", 0),
+            ("03000000 03000000 04010000 03020000 03020000", 0),
+        ],
+    );
+    // Variables that differ.
+    to.equal_each(
+        "03000000 03010001 03020000 04030001",
+        &[
+            ("03020000 03010001 03000000 04030001", 1),
+            ("03010001 04030001 03020000 03000000", 1),
+            ("04030001 03020000 03010001 03000000", 0),
+        ],
+    );
+    // One thread reads and writes, others read between.
+    to.equal_each(
+        "03000000 03010000 03020000 04000000",
+        &[
+            ("03020000 03010000 03000000 04000000", 1),
+            ("03010000 03000000 04000000 03020000", 0),
+            ("03010000 03020000 04000000 03000000", 0),
+        ],
+    );
+    to.equal_each(
+        "04000000 03010000 03000000 03020000",
+        &[
+            ("04000000 03020000 03000000 03010000", 1),
+            ("03010000 04000000 03000000 03020000", 0),
+        ],
+    );
+    to.equal_each(
+        "03000000 03010000 04000000 03010000 03000000",
+        &[
+            ("03010000 03000000 04000000 03000000 03010000", 1),
+            ("03010000 03010000 03000000 04000000 03000000", 0),
+            ("03000000 04000000 03010000 03010000 03000000", 0),
+        ],
+    );
+    // Before the first write, between the two, and behind the last.
+    to.equal_each(
+        "03000000 03010000 04020000 04030000 03000000 03010000",
+        &[
+            ("03010000 03000000 04020000 04030000 03010000 03000000", 1),
+            ("03000000 04020000 03010000 04030000 03000000 03010000", 0),
+            ("03000000 03010000 04020000 03010000 04030000 03000000", 0),
+            ("03000000 04020000 04030000 03010000 03000000 03010000", 0),
+            ("03010000 03000000 04030000 04020000 03010000 03000000", 0),
+        ],
+    );
+    // The first and the last variable, the first and the last thread.
+    to.equal_each(
+        "030003FF 031F03FF 040203FF",
+        &[
+            ("031F03FF 030003FF 040203FF", 1),
+            ("030003FF 040203FF 031F03FF", 0),
+            ("031F03FF 040203FF 030003FF", 0),
+        ],
+    );
+    to.equal("031F03FF 040003FF", "040003FF 031F03FF", 0);
+    to.equal("041F03FF 040003FF", "040003FF 041F03FF", 0);
+    to.equal("03000000 041F03FF", "041F03FF 03000000", 1);
+    to.equal("030003FF 041F0000", "041F0000 030003FF", 1);
+    // A lock and a variable of one number.
+    to.equal_each(
+        "01000005 03010005 02000005 03020005",
+        &[
+            ("03020005 03010005 01000005 02000005", 1),
+            ("01000005 02000005 03020005 03010005", 1),
+        ],
+    );
+    to.equal_each(
+        "01000005 04010005 03020005 02000005",
+        &[
+            ("04010005 01000005 02000005 03020005", 1),
+            ("03020005 01000005 02000005 04010005", 0),
+        ],
+    );
+    to.equal(
+        "01000005 02000005 03020005 01010005 02010005",
+        "01010005 02010005 03020005 01000005 02000005",
+        0,
+    );
+    every_order(to);
+    many_reads(to);
+}
+
+/// All orders of these words.
+fn orders(words: &[u32]) -> Vec<Vec<u32>> {
+    let Some((first, rest)) = words.split_first() else {
+        return vec![Vec::new()];
+    };
+    let mut all = Vec::new();
+    for order in orders(rest) {
+        for place in 0..words.len() {
+            all.push([&order[..place], &[*first], &order[place..]].concat());
+        }
+    }
+    all
+}
+
+/// Any two orders of accesses of one variable by five threads, three reads and two writes.
+fn every_order(to: &mut Literals) {
+    // Each write in turn, with the reads before it.
+    let writes = |words: &[u32]| -> Vec<Vec<u32>> {
+        let is_write = |&place: &usize| words[place] >> 24 == WRITE;
+        let with_reads = |place: usize| {
+            let mut reads = words[..place].to_vec();
+            reads.retain(|word| word >> 24 == READ);
+            reads.sort_unstable();
+            [&reads[..], &[words[place]]].concat()
+        };
+        (0..words.len()).filter(is_write).map(with_reads).collect()
+    };
+    let all = orders(&frames("03000005 03010005 03020005 04030005 04040005"));
+    for left in &all {
+        for right in &all {
+            to.equal_raw(left, right, u64::from(writes(left) == writes(right)));
+        }
+    }
+}
+
+/// Reads by all threads, and the longest recordings.
+fn many_reads(to: &mut Literals) {
+    let mut both = |left: &[u32], right: &[u32], reply| {
+        to.equal_raw(left, right, reply);
+        to.equal_raw(right, left, reply);
+    };
+    // Each thread once, in reverse; a write by one of them behind all, before all or between.
+    for variable in [0, 1, 1023] {
+        let all: Vec<u32> = (0..THREADS)
+            .map(|thread| word(READ, thread, variable))
+            .collect();
+        let reversed: Vec<u32> = all.iter().rev().copied().collect();
+        let write = [word(WRITE, 7, variable)];
+        both(&all, &reversed, 1);
+        both(
+            &[&all[..], &write].concat(),
+            &[&reversed[..], &write].concat(),
+            1,
+        );
+        both(
+            &[&write[..], &all].concat(),
+            &[&write[..], &reversed].concat(),
+            1,
+        );
+        for place in [1, 16, 31] {
+            let between = |words: &[u32]| [&words[..place], &write, &words[place..]].concat();
+            both(&between(&all), &between(&reversed), 0);
+        }
+    }
+    // A write, reads of the 31 other threads, a write and so on: the reads between two writes in
+    // reverse; then a read exchanged with the write before it or behind it, or with a read beyond.
+    let stretch = THREADS as usize;
+    let writes: Vec<usize> = (0..MOST_FRAMES).step_by(stretch).collect();
+    let words = readers(5, MOST_FRAMES, &writes);
+    let mut reversed = words.clone();
+    for reads in reversed.chunks_mut(stretch) {
+        reads[1..].reverse();
+    }
+    both(&words, &reversed, 1);
+    for write in [stretch, MOST_FRAMES / 2, MOST_FRAMES - stretch] {
+        for (one, other) in [
+            (write - 1, write),
+            (write, write + 1),
+            (write - 2, write + 3),
+        ] {
+            let mut exchanged = reversed.clone();
+            assert_ne!(exchanged[one], exchanged[other]);
+            exchanged.swap(one, other);
+            both(&words, &exchanged, 0);
+            both(&reversed, &exchanged, 0);
+        }
+    }
+    let mut first = reversed.clone();
+    first.swap(0, 1);
+    both(&words, &first, 0);
+    // One write, and a read moved across it from either side, from its neighbour and from far; and
+    // two writes exchanged.
+    for write in [1, 40, MOST_FRAMES / 2, MOST_FRAMES - 2] {
+        let words = readers(1023, MOST_FRAMES, &[write]);
+        for from in [0, write / 2, write - 1] {
+            let mut moved = words.clone();
+            moved[from..=write].rotate_left(1);
+            both(&words, &moved, 0);
+        }
+        for from in [write + 1, (write + MOST_FRAMES) / 2, MOST_FRAMES - 1] {
+            let mut moved = words.clone();
+            moved[write..=from].rotate_right(1);
+            both(&words, &moved, 0);
+        }
+        let mut two = words.clone();
+        two[write - 1] = word(WRITE, 5, 1023);
+        let mut exchanged = two.clone();
+        exchanged.swap(write - 1, write);
+        both(&two, &exchanged, 0);
     }
 }
 
@@ -1116,13 +1373,18 @@ fn compare_edges() -> Tally {
 
 /// The search over exchanges and the projections agree on short sound recordings.
 fn compare_search(random: &mut Random) -> bool {
-    // Not equal and equal: all, those with the same frames in another order, and those of these
-    // with an inner acquire and its release.
+    // Not equal and equal: all, those with the same frames in another order, those of these with an
+    // inner acquire and its release, and those that reads decide.
     let (mut counts, mut rearranged, mut inner) = ([0; 2], [0; 2], [0; 2]);
+    let mut decided = [0; 2];
     while counts[0] + counts[1] < BRUTE_PAIRS {
-        let mut left = match random.below(4) {
+        let mut left = match random.below(6) {
             0 => random_recording(random, Call::Equal, false).words,
             1 => random::taken_again(random),
+            2..4 => {
+                let threads = random.between(2, 4);
+                random::shared_reads(random, threads, BRUTE_FRAMES)
+            }
             _ => random::interleaved(random, 8, true).words,
         };
         left.truncate(random.between(2, BRUTE_FRAMES));
@@ -1145,13 +1407,24 @@ fn compare_search(random: &mut Random) -> bool {
         counts[reply as usize] += 1;
         rearranged[reply as usize] += usize::from(same_frames);
         inner[reply as usize] += usize::from(same_frames && inner_pair);
+        let by_reads = reads::shown(&left, &right, reply == 1).contains(&true);
+        decided[reply as usize] += usize::from(by_reads);
     }
     let ([unequal, equal], [unequal_order, equal_order]) = (counts, rearranged);
     let [unequal_inner, equal_inner] = inner;
     println!("equality by search: {equal} equal, {equal_order} of these in another order");
     println!("  {unequal} not equal, {unequal_order} of these with the same frames");
     println!("  with inner pairs: {equal_inner} and {unequal_inner} of these");
-    !rearranged.contains(&0) && !inner.contains(&0)
+    println!("  equal only by exchanging reads: {}", decided[1]);
+    println!(
+        "  not equal, as one read has passed a write: {}",
+        decided[0]
+    );
+    let complete = ![rearranged, inner, decided].concat().contains(&0);
+    if !complete {
+        println!("  FAILED: something that can occur did not");
+    }
+    complete
 }
 
 /// Prints the counts; false if something that can occur is absent.
@@ -1218,6 +1491,7 @@ fn main() {
     order_of_refusals(&mut literals);
     lines_and_lists(&mut literals);
     equal_recordings(&mut literals);
+    exchanged_reads(&mut literals);
     serial_orders(&mut literals);
     written_texts(&mut literals);
     verdict_lines(&mut literals);

@@ -125,7 +125,7 @@ const FAMILIES: [Family; 13] = [
     Family {
         name: "equality",
         share: 8,
-        fixed: each_item,
+        fixed: each_pair,
         round: random_exchanges,
         least_rounds: 200,
         kinds: &[],
@@ -818,9 +818,13 @@ fn both_ways(soak: &mut Soak, left: &[u32], right: &[u32]) {
 fn each_item(soak: &mut Soak) {
     for variable in 0..VARIABLES as u32 {
         let (one, two) = (1 + variable % 16, 17 + variable % 15);
-        let write = word(WRITE, one, variable);
-        for read in [word(READ, two, variable), word(READ, two, variable ^ 1)] {
-            both_ways(soak, &[write, read], &[read, write]);
+        for first in [READ, WRITE].map(|operation| word(operation, one, variable)) {
+            for operation in [READ, WRITE] {
+                for other in [variable, variable ^ 1] {
+                    let second = word(operation, two, other);
+                    both_ways(soak, &[first, second], &[second, first]);
+                }
+            }
         }
     }
     for lock in 0..LOCKS {
@@ -846,6 +850,40 @@ fn each_item(soak: &mut Soak) {
             both_ways(soak, &[take, take, read], &[take, read, take]);
         }
     }
+}
+
+/// Reads of all threads but the last around a write of that one: in reverse, and each of them moved
+/// across the write; in short recordings and in the longest ones.
+fn each_reader(soak: &mut Soak) {
+    let turn = THREADS as usize - 1;
+    for variable in [0, 1, 63, 64, 1023] {
+        for (frames, write) in [
+            (2 * turn + 1, turn),
+            (MOST_FRAMES, turn),
+            (MOST_FRAMES, MOST_FRAMES - 1 - turn),
+        ] {
+            let words = readers(variable, frames, &[write]);
+            let mut reversed = words.clone();
+            reversed[..write].reverse();
+            reversed[write + 1..].reverse();
+            soak.pair(&words, &reversed);
+            soak.pair(&reversed, &words);
+            for distance in 1..=turn {
+                let (mut behind, mut before) = (words.clone(), words.clone());
+                behind[write - distance..=write].rotate_left(1);
+                before[write..=write + distance].rotate_right(1);
+                for moved in [behind, before] {
+                    soak.pair(&words, &moved);
+                    soak.pair(&moved, &reversed);
+                }
+            }
+        }
+    }
+}
+
+fn each_pair(soak: &mut Soak) {
+    each_item(soak);
+    each_reader(soak);
 }
 
 /// A long recording, and one that is equal to it or nearly.

@@ -498,10 +498,18 @@ const LITERALS: [(&str, &str, Option<&str>, &str); 32] = [
     ),
 ];
 
-/// H, I, a left frame that is refused before a right line, and a lock taken too often.
-const LITERAL_PAIRS: [(&str, &str, &str); 4] = [
+const O: &str = "03000000 03010000 04020000";
+
+/// H, I, O, a left frame that is refused before a right line, and a lock taken too often.
+const LITERAL_PAIRS: [(&str, &str, &str); 10] = [
     ("03000000 03010001", "03010001 03000000", "equal\n"),
-    ("03000000 03010000", "03010000 03000000", "not equal\n"),
+    ("03000000 03010000", "03010000 03000000", "equal\n"),
+    (O, "03010000 03000000 04020000", "equal\n"),
+    (O, "03000000 04020000 03010000", "not equal\n"),
+    (O, "03010000 04020000 03000000", "not equal\n"),
+    ("03000000 04010000", "04010000 03000000", "not equal\n"),
+    ("04000000 04010000", "04010000 04000000", "not equal\n"),
+    ("03000000 03000001", "03000001 03000000", "not equal\n"),
     (
         "05000000 07000000",
         "x",
