@@ -70,11 +70,11 @@ fn same(left: &[u32], right: &[u32]) -> EqualReply
 pub fn equal(left: &[u32], right: &[u32]) -> EqualReply
     ensures { λ r. ⌜ r ≡ equalReply (now (left .entry)) (now (right .entry)) ⌝ }
 {
-    let l = soundness::check(left);
+    let l = quick::check(left);
     if let CheckReply::Refused(x) = l {
         return EqualReply::Refused(Side::Left, x);
     }
-    let r = soundness::check(right);
+    let r = quick::check(right);
     if let CheckReply::Refused(x) = r {
         return EqualReply::Refused(Side::Right, x);
     }
