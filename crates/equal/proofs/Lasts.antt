@@ -1,20 +1,21 @@
 -- Laws of the last places: they start at none, and a frame that is matched raises them for what clashes with it and for no other (`raised`).
-use Prim.Native.Nat.{ℕ, suc, _≤_, _<_}
+use Prim.Native.Nat.{ℕ, suc, _≤_, _<_, max}
 use mathlib.Core.Path.{_≡_, refl, subst}
 use mathlib.Core.Logic.{_↔_}
 use mathlib.Core.Bool.{Bool, true, false, cond, false≢true}
 use mathlib.Core.List.{List}
 use native.Mathlib.Omega.{arith}
-use borrow.Author.Tests.{eqb-true, ltb-true, ltb-false}
-use lib.Dec.{eqb, ltb}
+use borrow.Author.Tests.{eqb-true}
+use lib.Dec.{eqb}
 use lib.ListN.{length, getD, set, replicate, length-set}
 use Rattle.frame.specs.Limits.{lockCount, variableCount}
 use Rattle.laws.proofs.Lists.{getD-filled, getD-stored}
 use Rattle.frame.specs.Frame.{ObjectInRange}
+use Rattle.frame.specs.declared.Lock.{Lock}
 use Rattle.frame.specs.declared.Action.{Action}
 use Rattle.frame.specs.declared.Action.the-variants.{Acquire, Release, Read, Write, Begin, End}
 use Rattle.exchange.specs.Independent.{clash}
-use Rattle.matching.specs.Places.{larger, Lasts, lastsOf, lastAt, withLast}
+use Rattle.matching.specs.Places.{Lasts, lastsOf, lastAt, withLast}
 
 abbrev pub noLasts : Lasts
 noLasts = lastsOf (replicate lockCount 0) (replicate variableCount 0) (replicate variableCount 0)
@@ -44,17 +45,11 @@ Least x p v = (j : ℕ) → v ≤ j ↔ ((x ≤ j) × (p < j))
 least-after : (x p : ℕ) → x ≤ p → Least x p (suc p)
 least-after x p h j = (λ z. (omega arith, z), λ z. z .1)
 
-least-larger : (x p : ℕ) → Least x p (larger x (suc p))
-least-larger x p j = go (ltb x (suc p)) refl
-  where
-    go : (b : Bool) → ltb x (suc p) ≡ b → cond b (suc p) x ≤ j ↔ ((x ≤ j) × (p < j))
-    go true e = (λ z. (omega (arith, ltb-true x (suc p) e), z), λ z. z .1)
-    go false e = (λ z. (z, omega (arith, ltb-false x (suc p) e)), λ z. z .0)
+least-max : (x p : ℕ) → Least x p (max x (suc p))
+least-max x p j = (λ z. (omega arith, omega arith), λ z. omega (arith, z .0, z .1))
 
-not-below : (x p : ℕ) → x ≤ larger x (suc p)
-not-below x p =
-    let h : larger x (suc p) ≤ larger x (suc p) = omega arith in
-    least-larger x p (larger x (suc p)) .0 h .0
+unraised : (x p j : ℕ) → x ≤ j ↔ ((x ≤ j) × (false ≡ true → p < j))
+unraised x p j = (λ z. (z, λ y. absurd (false≢true y)), λ z. z .0)
 
 -- One number of a list is raised, and no other.
 stored-raised : (l : List ℕ) (m k p v : ℕ) → m < length l → Least (getD l m 0) p v → (j : ℕ)
@@ -65,23 +60,24 @@ stored-raised l m k p v h t j = rw (getD-stored l m v k h) (go (eqb m k) refl)
     go true e =
         subst (λ i. v ≤ j ↔ ((getD l i 0 ≤ j) × (true ≡ true → p < j))) (eqb-true m k e)
         (λ z. (t j .0 z .0, λ y. t j .0 z .1), λ z. t j .1 (z .0, z .1 refl))
-    go false e = (λ z. (z, λ y. absurd (false≢true y)), λ z. z .0)
-
-unraised : (x p j : ℕ) → x ≤ j ↔ ((x ≤ j) × (false ≡ true → p < j))
-unraised x p j = (λ z. (z, λ y. absurd (false≢true y)), λ z. z .0)
+    go false e = unraised (getD l k 0) p j
 
 -- A frame with the action a is matched at place p.
 module _ (p : ℕ) (c : Lasts) (s : Kept c) where
+  lock-raised : (m k : Lock) → m .0 < lockCount → getD (c .locks) (m .0) 0 ≤ p → (j : ℕ)
+      → getD (set (c .locks) (m .0) (suc p)) (k .0) 0 ≤ j ↔ ((getD (c .locks) (k .0) 0 ≤ j) × (eqb (m .0) (k .0) ≡ true → p < j))
+  lock-raised m k h o = stored-raised (c .locks) (m .0) (k .0) p (suc p) (omega (arith, s .locks)) (least-after _ p o)
+
   pub raised : (a b : Action) → ObjectInRange a → lastAt a c ≤ p → (j : ℕ)
       → lastAt b (withLast a (suc p) c) ≤ j ↔ ((lastAt b c ≤ j) × (clash a b ≡ true → p < j))
-  raised (Acquire m) (Acquire k) h o = stored-raised (c .locks) (m .0) (k .0) p (suc p) (omega (arith, s .locks)) (least-after _ p o)
-  raised (Acquire m) (Release k) h o = stored-raised (c .locks) (m .0) (k .0) p (suc p) (omega (arith, s .locks)) (least-after _ p o)
+  raised (Acquire m) (Acquire k) h o = lock-raised m k h o
+  raised (Acquire m) (Release k) h o = lock-raised m k h o
   raised (Acquire m) (Read y) h o = unraised _ p
   raised (Acquire m) (Write y) h o = unraised _ p
   raised (Acquire m) Begin h o = unraised _ p
   raised (Acquire m) End h o = unraised _ p
-  raised (Release m) (Acquire k) h o = stored-raised (c .locks) (m .0) (k .0) p (suc p) (omega (arith, s .locks)) (least-after _ p o)
-  raised (Release m) (Release k) h o = stored-raised (c .locks) (m .0) (k .0) p (suc p) (omega (arith, s .locks)) (least-after _ p o)
+  raised (Release m) (Acquire k) h o = lock-raised m k h o
+  raised (Release m) (Release k) h o = lock-raised m k h o
   raised (Release m) (Read y) h o = unraised _ p
   raised (Release m) (Write y) h o = unraised _ p
   raised (Release m) Begin h o = unraised _ p
@@ -89,7 +85,7 @@ module _ (p : ℕ) (c : Lasts) (s : Kept c) where
   raised (Read x) (Acquire k) h o = unraised _ p
   raised (Read x) (Release k) h o = unraised _ p
   raised (Read x) (Read y) h o = unraised _ p
-  raised (Read x) (Write y) h o = stored-raised (c .accesses) (x .0) (y .0) p _ (omega (arith, s .accesses)) (least-larger _ p)
+  raised (Read x) (Write y) h o = stored-raised (c .accesses) (x .0) (y .0) p _ (omega (arith, s .accesses)) (least-max _ p)
   raised (Read x) Begin h o = unraised _ p
   raised (Read x) End h o = unraised _ p
   raised (Write x) (Acquire k) h o = unraised _ p
@@ -102,20 +98,23 @@ module _ (p : ℕ) (c : Lasts) (s : Kept c) where
   raised Begin b h o = unraised _ p
   raised End b h o = unraised _ p
 
+  lock-kept : (m : Lock) → Kept (lastsOf (set (c .locks) (m .0) (suc p)) (c .writes) (c .accesses))
+  lock-kept m = record { locks = simp length-set (s .locks); writes = s .writes; accesses = s .accesses; written = s .written }
+
   pub kept-on : (a : Action) → ObjectInRange a → Kept (withLast a (suc p) c)
-  kept-on (Acquire m) h = record { locks = simp length-set (s .locks); writes = s .writes; accesses = s .accesses; written = s .written }
-  kept-on (Release m) h = record { locks = simp length-set (s .locks); writes = s .writes; accesses = s .accesses; written = s .written }
+  kept-on (Acquire m) h = lock-kept m
+  kept-on (Release m) h = lock-kept m
   kept-on (Read x) h = record {
     locks = s .locks;
     writes = s .writes;
     accesses = simp length-set (s .accesses);
-    written = λ y. rw (getD-stored (c .accesses) (x .0) (larger (getD (c .accesses) (x .0) 0) (suc p)) y (omega (arith, s .accesses))) (go y (eqb (x .0) y) refl);
+    written = λ y. rw (getD-stored (c .accesses) (x .0) (max (getD (c .accesses) (x .0) 0) (suc p)) y (omega (arith, s .accesses))) (go y (eqb (x .0) y) refl);
   }
     where
-      go : (y : ℕ) (b : Bool) → eqb (x .0) y ≡ b → getD (c .writes) y 0 ≤ cond b (larger (getD (c .accesses) (x .0) 0) (suc p)) (getD (c .accesses) y 0)
+      go : (y : ℕ) (b : Bool) → eqb (x .0) y ≡ b → getD (c .writes) y 0 ≤ cond b (max (getD (c .accesses) (x .0) 0) (suc p)) (getD (c .accesses) y 0)
       go y true e =
-          subst (λ i. getD (c .writes) i 0 ≤ larger (getD (c .accesses) (x .0) 0) (suc p)) (eqb-true (x .0) y e)
-          (omega (arith, s .written (x .0), not-below (getD (c .accesses) (x .0) 0) p))
+          subst (λ i. getD (c .writes) i 0 ≤ max (getD (c .accesses) (x .0) 0) (suc p)) (eqb-true (x .0) y e)
+          (omega (arith, s .written (x .0)))
       go y false e = s .written y
   kept-on (Write x) h = record {
     locks = s .locks;

@@ -1,7 +1,7 @@
 -- What the functions of the comparison tell each other: where a thread's next frame stands, and the last places.
-use Prim.Native.Nat.{ℕ}
+use Prim.Native.Nat.{ℕ, max}
 use mathlib.Core.Path.{_≡_}
-use mathlib.Core.Bool.{Bool, cond}
+use mathlib.Core.Bool.{Bool}
 use mathlib.Core.List.{List}
 use lib.Dec.{ltb}
 use lib.ListN.{length, getD, set}
@@ -25,12 +25,9 @@ pub record Stored (l : List ℕ) (k q : ℕ) (l′ : List ℕ) (b : Bool) : Type
   pub below : b ≡ ltb (getD l k 0) q
   pub stored : l′ ≡ set l k q
 
-abbrev pub larger : ℕ → ℕ → ℕ
-larger x q = cond (ltb x q) q x
-
 -- The k-th number is raised to q, if it is below q.
 abbrev pub raisedTo : List ℕ → ℕ → ℕ → List ℕ
-raisedTo l k q = set l k (larger (getD l k 0) q)
+raisedTo l k q = set l k (max (getD l k 0) q)
 
 -- One more than a place, 0 for none: for each lock the last place matched that names it, for each variable the place of the last write
 -- matched, and the greatest place matched of any access.

@@ -4,13 +4,13 @@ use frame::LOCKS;
 use frame::Thread;
 use frame::VARIABLES;
 ghost use mathlib.Core.Path.{_≡_};
-ghost use Prim.Native.Nat.{_≤_, _<_};
+ghost use Prim.Native.Nat.{_≤_, _<_, max};
 ghost use lib.Dec.{ltb};
 ghost use lib.ListN.{length, getD, set};
 ghost use Rattle.frame.specs.Frame.{ObjectInRange};
 ghost use Rattle.soundness.specs.Soundness.{checkReply};
 ghost use Rattle.soundness.specs.declared.CheckReply.the-variants as check;
-ghost use Rattle.matching.specs.Places.{Stored, larger, raisedTo, lastsOf, Noted, FoundIn};
+ghost use Rattle.matching.specs.Places.{Stored, raisedTo, lastsOf, Noted, FoundIn};
 
 // Stores q, and answers whether what was there is below q.
 fn store(last: &mut [u32], k: usize, q: u32) -> bool
@@ -24,7 +24,7 @@ fn store(last: &mut [u32], k: usize, q: u32) -> bool
 
 // The larger of two numbers.
 fn larger(x: u32, q: u32) -> u32
-    ensures { λ r. ⌜ r ≡ larger x q ⌝ }
+    ensures { λ r. ⌜ r ≡ max x q ⌝ }
 {
     if x < q { q } else { x }
 }
