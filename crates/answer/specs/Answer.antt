@@ -1,13 +1,11 @@
--- A refusal as one number, the kind of a reply, the verdict on a text, which of its bytes decide, and that a line holds every place.
+-- The kind of a reply, the verdict on a text, which of its bytes decide, and that a line holds every place.
 -- Quotes are from docs/FORMAT.md.
-use Prim.Native.Nat.{ℕ, _+_, _*_, _<_}
+use Prim.Native.Nat.{ℕ, _+_, _<_}
 use mathlib.Core.Path.{_≡_}
 use mathlib.Core.List.{List, []}
 use lib.ListN.{length, take}
 use Rattle.guards.specs.declared.Judgement.the-variants.{Inferred}
 use Rattle.guards.specs.declared.Judgement.{Judgement}
-use Rattle.frame.specs.Refusal.{refusalNumber}
-use Rattle.frame.specs.declared.Refused.{Refused}
 use Rattle.digits.specs.Digits.{tooWide}
 use Rattle.text.specs.Text.{scanned, wordsTo, mostBytes}
 use Rattle.text.specs.declared.ReadReply.{ReadReply}
@@ -18,10 +16,6 @@ use Rattle.line.specs.Line.{placeWidth, MarkTold, replyFields}
 use Rattle.line.specs.declared.Fields.{Fields}
 use Rattle.verdict.specs.Verdict.{verdictUnder, inferredReply}
 use Rattle.answer.specs.declared.TextJudged.{TextJudged}
-
--- A number that answers: the refusal's number in the high 32 bits and its place in the low 32; or no refusal, and the count answered.
-abbrev pub packed : Refused → ℕ
-packed r = refusalNumber (r .reason) * 4294967296 + r .place
 
 -- The kind of a reply's verdict line, whatever the number of frames.
 abbrev pub replyKind : Reply → ℕ

@@ -1,5 +1,4 @@
-// What the functions for C programs share: a refusal as one number, a verdict line with its kind, the verdict on a text.
-use frame::Refused;
+// What the functions for C programs share: a verdict line with its kind, the verdict on a text.
 use guards::Judgement;
 use reply::Reply;
 use text::ReadReply;
@@ -8,21 +7,12 @@ ghost use mathlib.Core.List.{_++_};
 ghost use Prim.Native.Nat.{_≤_};
 ghost use lib.ListN.{length, drop};
 ghost use Rattle.line.specs.Line.{lineLength, verdictLine};
-ghost use Rattle.answer.specs.Answer.{packed, replyKind, textJudged};
+ghost use Rattle.answer.specs.Answer.{replyKind, textJudged};
 
 // The reply to a text, and its number of frames where it is read.
 pub struct TextJudged {
     pub reply: Reply,
     pub frames: u32,
-}
-
-// A refusal as one number.
-pub fn pack(r: Refused) -> u64
-    ensures { λ n. ⌜ n ≡ packed r ⌝ }
-{
-    let reason = r.reason;
-    let number = frame::refusal_number(reason);
-    (number as u64) * 4294967296 + (r.place as u64)
 }
 
 // The verdict line of a reply, at the front of a buffer, and its kind.

@@ -53,7 +53,7 @@ pub data Operation : ℕ → Type 0 where
   begin : Operation 5
   end : Operation 6
 
-operation : (op : ℕ) → 1 ≤ op → op ≤ 6 → Operation op
+pub operation : (op : ℕ) → 1 ≤ op → op ≤ 6 → Operation op
 operation zero l h = absurd (omega arith)
 operation (suc zero) l h = acquire
 operation (suc (suc zero)) l h = release

@@ -13,10 +13,8 @@ use Rattle.reply.specs.declared.Mark.the-variants.{At, Absent}
 use Rattle.reply.specs.declared.Reply.{Reply}
 use Rattle.reply.specs.declared.Reply.the-variants as reply
 use Rattle.reply.specs.declared.Verdict.the-variants as verdict
-use Rattle.pass.specs.Pass.{Ended, fullSets, judgement, openAtEnd}
-use Rattle.pass.proofs.Judgement.{judgement-pass, judgement-sound}
+use Rattle.pass.specs.Pass.{fullSets, judgement, openAtEnd}
 use Rattle.serial.specs.Order.{serialWords}
-use Rattle.serial.specs.Walk.{walkReply}
 use Rattle.order.specs.Order.{reducibleReply, irreducible, orderReply, orderOut, outAfter}
 use Rattle.order.specs.declared.OrderReply.the-variants as order
 
@@ -33,14 +31,6 @@ says-reducible q r b e t f = sym e ∙ passes q (not-false (reducibleReply q) (s
 -- and one that it holds up
 pub says-irreducible : (q r : Reply) (b : Bool) → q ≡ r → b ≡ not (reducibleReply q) → b ≡ true → reducibleReply r ≡ false
 says-irreducible q r b e t f = ap reducibleReply (sym e) ∙ not-true (reducibleReply q) (sym t ∙ f)
-
--- a walk of a reducible recording answers that it is, so the test lets it pass
-pub walked : {A : Type 0} (guards ws : List ℕ) (q : Reply) (b : Bool) → judgement guards fullSets ws .reply ≡ reducible → q ≡ walkReply guards ws
-    → b ≡ not (reducibleReply q) → b ≡ true → A
-walked guards ws q b r e t f =
-    let w : walkReply guards ws ≡ reducible = sym (ap (λ (x : Ended). x .reply) (judgement-pass guards fullSets ws (judgement-sound guards fullSets ws verdict.Reducible r))) ∙ r in
-    let z : true ≡ false = sym (ap reducibleReply (e ∙ w)) ∙ not-true (reducibleReply q) (sym t ∙ f) in
-    never (cc)
 
 -- a refusal leaves the output
 irreducible-out : (r : Reply) (words out : List ℕ) → reducibleReply r ≡ false → outAfter (irreducible r) words out ≡ out

@@ -8,6 +8,7 @@ use guards::Judgement;
 use reply::Mark;
 use reply::Reply;
 use reply::Verdict;
+use soundness::CheckReply;
 ghost use mathlib.Core.Path.{_≡_};
 ghost use mathlib.Core.Bool.{not};
 ghost use lib.ListN.{length};
@@ -46,7 +47,7 @@ fn is_irreducible(r: Reply) -> bool
     }
 }
 
-// The serial order under a table of guards: the pass, and the walk that writes, which answers what it finds wrong.
+// The serial order under a table of guards: the pass, which judges, and the walk, which writes.
 fn under_guards(words: &[u32], guards: &[u8; VARIABLES], out: &mut [u32]) -> OrderReply
     ensures reply { λ r. ⌜ r ≡ orderReply (now (guards .entry)) (now (words .entry)) (length (now (out .entry))) ⌝ }
     ensures contents { λ r. ⌜ now (out .exit) ≡ orderOut (now (guards .entry)) (now (words .entry)) (now (out .entry)) ⌝ }
@@ -72,10 +73,10 @@ fn under_guards(words: &[u32], guards: &[u8; VARIABLES], out: &mut [u32]) -> Ord
         });
     }
     let w = walk::write_order(words, guards, out);
-    if is_irreducible(w) {
-        return refusal(w);
+    match w {
+        CheckReply::Refused(x) => OrderReply::Refused(x),
+        CheckReply::Sound => OrderReply::Written(n),
     }
-    OrderReply::Written(n)
 }
 
 // The refusal of a guard list.

@@ -9,9 +9,6 @@ use native.Mathlib.Omega.{arith}
 use borrow.Author.Tests.{eqb-true, ltb-true, ltb-false}
 use lib.Dec.{eqb, ltb}
 use lib.ListN.{length, getD, drop, List·getD-eq-default}
-use Rattle.turn.specs.declared.Turn.{Turn}
-use Rattle.turn.specs.declared.Turn.the-variants as turn
-use Rattle.turn.specs.Turn.{turned}
 use Rattle.pass.specs.Pass.{Ended, startJudging, fullSets, judgeFrom, judgement, earlier, openBegin, firstOpenFrom, firstOpen, openAtEnd}
 use Rattle.frame.specs.Limits.{threadCount}
 use Rattle.laws.proofs.Logic.{never, either, from-here, by-test}
@@ -36,17 +33,17 @@ use Rattle.exchange.specs.Exchange.{Exchanges, independentWords, frameOf, frame
 use Rattle.exchange.specs.Independent.{independent}
 use Rattle.exchange.proofs.Exchange.{exchanges-length}
 use Rattle.exchange.proofs.Frames.{AllDecode, frame-word, sound-all-decode, frames-words, apart-words}
-use Rattle.serial.specs.Order.{Point, next, phaseOfThread, settled, commits, unitAt, unitsFrom, serialWords, Closed, contiguousAt, Contiguous}
-use Rattle.serial.specs.Walk.{ownFrame, onOwn, unitFrom, unitOf, unitStart, unitIn, onTurn, onFrame, walkFrom, walkWords}
-use Rattle.serial.specs.declared.Own.{Own}
-use Rattle.serial.specs.declared.Own.the-variants as own
+use Rattle.serial.specs.Order.{commits, unitAt, unitsFrom, serialWords, Closed, contiguousAt, Contiguous}
+use Rattle.commit.specs.Commit.{Tables, visited, unitStart}
+use Rattle.serial.specs.Walk.{Own, mine, other, ownFrame, onOwn, unitFrom, unitOf, unitIn, onFrame, walkFrom, walkWords}
 use Rattle.reduction.proofs.Run as run
 use Rattle.reduction.proofs.Run.{threadOf, Run, begin, Good, depthAt, put}
 use Rattle.reduction.proofs.Serial.{Serial, serial-exchanges, serial-serial}
 use Rattle.reduction.proofs.Units.{walk, serial-walk}
 use Rattle.reduction.proofs.Alike.{Alike, alike-same, alike-inferred, serialOrder-alike}
 use Rattle.orderlaws.proofs.View.{Declared}
-use Rattle.orderlaws.proofs.Recording.{Pass, pass-made, start-long, start-view, pass-good, order-frames, pass-depth, pass-walk, pass-end, pass-end-long}
+use Rattle.orderlaws.proofs.Recording.{Pass, pass-made, start-long, start-view, pass-good, order-frames, pass-depth, pass-end, pass-end-long}
+use Rattle.orderlaws.proofs.Walk.{pass-walk}
 
 -- an operation under the chosen locks does the same to locks, depths and commits, and is under no inferred guard
 alike-chosen : (locks : List ℕ) (o : Operation) → Alike o (chosen locks o)
@@ -165,31 +162,25 @@ unit-decode t d [] a = tt
 unit-decode t d (w ∷ ws) a = go (ownFrame (decodeWord w) t d) (λ e. unit-decode t e ws (a .1))
   where
     go : (o : Own) → ((e : ℕ) → AllDecode (unitFrom t e ws)) → AllDecode (onOwn o w d (λ e. unitFrom t e ws))
-    go own.Other ih = ih d
-    go (own.Mine e) ih = (a .0, either AllDecode (eqb e 0) {x = []} {y = unitFrom t e ws} tt (ih e))
+    go other ih = ih d
+    go (mine e) ih = (a .0, either AllDecode (eqb e 0) {x = []} {y = unitFrom t e ws} tt (ih e))
 
 in-decode : (m : Mark) (all : List ℕ) (t : Thread) → AllDecode all → AllDecode (unitIn m all t)
 unfolding unitOf
 in-decode (At b) all t a = unit-decode t 0 (drop b all) (drop-decode b all a)
 in-decode Absent all t a = tt
 
-turn-decode : (q : Turn) (m : Mark) (all : List ℕ) (t : Thread) (l : List ℕ) → AllDecode all → AllDecode l → AllDecode (onTurn q (unitIn m all t ++ l))
-turn-decode turn.Next m all t l a b = both-decode (unitIn m all t) l (in-decode m all t a) b
-turn-decode (turn.Refused r) m all t l a b = tt
-turn-decode (turn.Wrong v) m all t l a b = tt
-
 frame-decode : (x : Decoded) (l : Frame → List ℕ) → ((f : Frame) → AllDecode (l f)) → AllDecode (onFrame x l)
 frame-decode (decoded.Frame f) l a = a f
 frame-decode (decoded.Bad r) l a = tt
 
-walk-decode : (guards all : List ℕ) (i : ℕ) (p : Point) (ws : List ℕ) → AllDecode all → AllDecode (walkFrom guards all i p ws)
+walk-decode : (guards all : List ℕ) (i : ℕ) (x : Tables) (ws : List ℕ) → AllDecode all → AllDecode (walkFrom guards all i x ws)
 unfolding walkFrom
-walk-decode guards all i p [] a = tt
-walk-decode guards all i p (w ∷ ws) a =
+walk-decode guards all i x [] a = tt
+walk-decode guards all i x (w ∷ ws) a =
     frame-decode (decodeWord w) _
-    (λ f. turn-decode (turned guards i f (p .state) (p .judging) .turn)
-    (unitStart (phaseOfThread (f .thread) p) (settled (phaseOfThread (f .thread) (next guards i f p))) i) all (f .thread)
-    (walkFrom guards all (i + 1) (next guards i f p) ws) a (walk-decode guards all (i + 1) (next guards i f p) ws a))
+    (λ f. both-decode (unitIn (unitStart guards i f x) all (f .thread)) (walkFrom guards all (i + 1) (visited guards i f x) ws)
+    (in-decode (unitStart guards i f x) all (f .thread) a) (walk-decode guards all (i + 1) (visited guards i f x) ws a))
 
 -- words that all decode are those of their frames
 words-back : (l : List ℕ) → AllDecode l → map encodeFrame (framesOf l) ≡ l
@@ -211,7 +202,7 @@ walk-is-order guards ws r c =
 
     same : framesOf (walkWords guards ws) ≡ framesOf (serialWords guards ws)
     same =
-        pass-walk guards ws (λ t. []) p refl (λ u ne. absurd (ne (ap (λ (x : Run). x .depth u) start-view)))
+        pass-walk guards p
         ∙ (ap (λ (x : Run). walk guards x (λ t. []) 0 (framesOf ws)) start-view
         ∙ (serial-walk guards (framesOf ws) (closed-frames guards ws r c) ∙ sym (order-frames guards p)))
 

@@ -1,19 +1,18 @@
--- A recording that the pass judges reducible, frame by frame: its run, its keys, its units and its walk are those of the run that the states
--- stand for. In this order: the pass; the run does not go wrong; commits and the serial order; depths; units; the walk; the end.
+-- A recording that the pass judges reducible, frame by frame: its run, its keys and its units are those of the run that the states stand for.
+-- In this order: the pass; the run does not go wrong; commits and the serial order; depths; units; the end.
 use Prim.Native.Nat.{ℕ, zero, suc, pred, _+_, _-_}
 use mathlib.Core.Path.{_≡_, refl, sym, ap, _∙_, subst}
 use mathlib.Core.Bool.{Bool, true, false, cond, not, _&&_, _||_}
-use mathlib.Core.List.{List, [], _∷_, _++_, map-append}
+use mathlib.Core.List.{List, [], _∷_, map-append}
 use native.Mathlib.Omega.{arith}
 use native.Mathlib.Numerals.{add-one}
-use borrow.Author.Tests.{eqb-true, eqb-false, ne-eqb}
 use lib.Dec.{eqb}
-use lib.ListN.{length, getD, drop, length-map}
+use lib.ListN.{length, getD, length-map}
 use Rattle.turn.specs.Turn.{judgeFrame}
 use Rattle.pass.specs.Pass.{Ended, judgeFrom, startJudging, fullSets}
 use Rattle.frame.specs.Limits.{threadCount, lockCount}
 use Rattle.laws.proofs.Logic.{never}
-use Rattle.laws.proofs.Lists.{getD-filled, rest-of}
+use Rattle.laws.proofs.Lists.{getD-filled}
 use Rattle.frame.proofs.Laws.{decoded-in-range}
 use Rattle.frame.specs.Frame.{decodeWord}
 use Rattle.frame.specs.declared.Thread.{Thread}
@@ -32,14 +31,12 @@ use Rattle.operation.specs.Operation.{operationOf}
 use Rattle.rules.proofs.Choice.{goes, goes-on}
 use Rattle.exchange.specs.Exchange.{frameOf, framesOf}
 use Rattle.serial.specs.Order.{Point, commitFrom, commitIn, commitsFrom, unitAt, unitsFrom, serialWords, settled}
-use Rattle.serial.specs.Walk.{unitFrom, unitOf, unitStart, unitIn, walkFrom, onOwn}
-use Rattle.serial.specs.declared.Own.the-variants as own
+use Rattle.serial.specs.Walk.{mine, other, unitFrom, onOwn}
 use Rattle.reduction.proofs.Run as run
-use Rattle.reduction.proofs.Run.{threadOf, Run, begin, sound, Keyed, Good, onto, commitPlace, keyOf, keyed, depthAt}
+use Rattle.reduction.proofs.Run.{threadOf, Run, begin, sound, Keyed, Good, commitPlace, keyOf, keyed, depthAt}
 use Rattle.reduction.proofs.Sort.{frames, bucket, buckets}
 use Rattle.reduction.proofs.Serial.{serialOrder, frames-append, frames-keyed, depth-next}
 use Rattle.reduction.proofs.Units as units
-use Rattle.reduction.proofs.Units.{openFrom, emitted, walk}
 use Rattle.orderlaws.proofs.View.{viewOf, Long, Declared, OneFrame, run-equal, one-frame}
 
 abbrev pub point : State → Judging → Point
@@ -99,7 +96,7 @@ commit-in d b c x = go (eqb d 0) (eqb c 0) refl
     go false true e = rw e
     go false false e = rw e (less-one c)
 
-frames-first : (w : ℕ) (f : Frame) (ws : List ℕ) → decodeWord w ≡ decoded.Frame f → framesOf (w ∷ ws) ≡ f ∷ framesOf ws
+pub frames-first : (w : ℕ) (f : Frame) (ws : List ℕ) → decodeWord w ≡ decoded.Frame f → framesOf (w ∷ ws) ≡ f ∷ framesOf ws
 frames-first w f ws d = rw d
 
 abbrev keys : List (Keyed Frame) → List ℕ
@@ -211,88 +208,13 @@ module _ (guards : List ℕ) where
 
       go : (b : Bool) → eqb (threadOf f) (t .0) ≡ b
           → framesOf (unitFrom t (getD (n .depths) (t .0) 0) ws) ≡ units.unitFrom (t .0) (getD (n .depths) (t .0) 0) (framesOf ws)
-          → framesOf (onOwn (cond b (own.Mine (nest m (f .action))) own.Other) w m (λ e. unitFrom t e ws))
+          → framesOf (onOwn (cond b (mine (nest m (f .action))) other) w m (λ e. unitFrom t e ws))
           ≡ cond b (f ∷ cond (eqb (nest m (f .action)) 0) [] (units.unitFrom (t .0) (nest m (f .action)) (framesOf ws)))
           (units.unitFrom (t .0) m (framesOf ws))
       go true e ih =
           more (eqb (nest m (f .action)) 0) (nest m (f .action))
           (subst (λ (x : ℕ). framesOf (unitFrom t x ws) ≡ units.unitFrom (t .0) x (framesOf ws)) (after-own e) ih)
       go false e ih = subst (λ (x : ℕ). framesOf (unitFrom t x ws) ≡ units.unitFrom (t .0) x (framesOf ws)) (after-other e) ih
-
-  -- What the code has of the units of the blocks that are open is what the walk over frames has of them.
-  abbrev pub Opens : List ℕ → State → Judging → (ℕ → List Frame) → Type 0
-  Opens all s j o =
-      (u : ℕ) → (getD (s .depths) u 0 ≡ 0 → ⊥) → framesOf (unitOf all (getD (j .begins) u 0) (record { 0 = u })) ≡ units.unitFrom u 0 (o u)
-
-  -- a unit that starts here
-  unit-starts : (u : ℕ) (all : List ℕ) {i : ℕ} {s : State} {j : Judging} {ws : List ℕ} → Pass guards i s j ws → drop i all ≡ ws
-      → getD (s .depths) u 0 ≡ 0 → framesOf (unitOf all i (record { 0 = u })) ≡ units.unitFrom u 0 (framesOf ws)
-  unfolding unitOf
-  unit-starts u all {ws = ws} p e z =
-      ap (λ (l : List ℕ). framesOf (unitFrom (record { 0 = u }) 0 l)) e
-      ∙ subst (λ (x : ℕ). framesOf (unitFrom (record { 0 = u }) x ws) ≡ units.unitFrom u x (framesOf ws)) z (unit-frames (record { 0 = u }) p)
-
-  opens-next : (all : List ℕ) (q : ℕ → List Frame) {i w : ℕ} {s n : State} {j k : Judging} {ws : List ℕ} (f : Frame)
-      → decodeWord w ≡ decoded.Frame f → OneFrame guards i f s j n k → Pass guards i s j (w ∷ ws)
-      → drop i all ≡ w ∷ ws → Opens all s j q → Opens all n k (openFrom (viewOf s j) q f (framesOf ws))
-  opens-next all q {i} {w} {s} {n} {j} {k} {ws} f d o p e h u ne =
-      ap (λ (b : ℕ). framesOf (unitOf all b (record { 0 = u }))) (o .begun u ne)
-      ∙ go (eqb u (threadOf f)) (eqb (getD (s .depths) (threadOf f) 0) 0) refl refl
-    where
-      others : eqb u (threadOf f) ≡ false → getD (s .depths) u 0 ≡ 0 → ⊥
-      others a z = ne (depth-now u f o ∙ (rw (ne-eqb (threadOf f) u (λ y. eqb-false _ _ a (sym y))) z))
-
-      go : (a b : Bool) → eqb u (threadOf f) ≡ a → eqb (getD (s .depths) (threadOf f) 0) 0 ≡ b
-          → framesOf (unitOf all (cond (a && b) i (getD (j .begins) u 0)) (record { 0 = u }))
-          ≡ units.unitFrom u 0 (cond (a && b) (f ∷ framesOf ws) (q u))
-      go true true a b =
-          unit-starts u all p e (ap (λ (x : ℕ). getD (s .depths) x 0) (eqb-true _ _ a) ∙ eqb-true _ _ b)
-          ∙ ap (λ (l : List Frame). units.unitFrom u 0 l) (frames-first w f ws d)
-      go true false a b = h u (λ z. eqb-false _ _ b (ap (λ (x : ℕ). getD (s .depths) x 0) (sym (eqb-true _ _ a)) ∙ z))
-      go false b a c = h u (others a)
-
-  -- The walk over the words is the walk over the frames.
-  pub pass-walk : (all : List ℕ) (q : ℕ → List Frame) {i : ℕ} {s : State} {j : Judging} {ws : List ℕ} → Pass guards i s j ws → drop i all ≡ ws
-      → Opens all s j q → framesOf (walkFrom guards all i (point s j) ws) ≡ walk guards (viewOf s j) q i (framesOf ws)
-  unfolding walkFrom
-  pass-walk all q end e h = refl
-  pass-walk all q (on {i = i} {s = s} {j = j} {w = w} {ws = ws} {f = f} {n = n} {k = k} d g a o rest) e h =
-      rw (d, a, g, add-one i)
-      (map-append frameOf (unitIn (unitStart (phaseOf m b c) (settled (phaseOf (getD (n .depths) t 0) (getD (k .begins) t 0) (getD (k .commits) t 0))) i) all (f .thread))
-      (walkFrom guards all (suc i) (point n k) ws)
-      ∙ (ap (λ (x : List Frame). x ++ framesOf (walkFrom guards all (suc i) (point n k) ws)) here
-      ∙ ap (λ (x : List Frame). emitted guards (viewOf s j) q i f (framesOf ws) ++ x)
-      (pass-walk all (openFrom (viewOf s j) q f (framesOf ws)) rest (rest-of all i w ws e .2) (opens-next all q f d o (on d g a o rest) e h)
-      ∙ ap (λ (x : Run). walk guards x (openFrom (viewOf s j) q f (framesOf ws)) (suc i) (framesOf ws)) (o .run))))
-    where
-      t : ℕ
-      t = threadOf f
-
-      m : ℕ
-      m = getD (s .depths) (threadOf f) 0
-
-      b : ℕ
-      b = getD (j .begins) (threadOf f) 0
-
-      c : ℕ
-      c = getD (j .commits) (threadOf f) 0
-
-      go : (x y z : Bool) → eqb m 0 ≡ x → eqb c 0 ≡ y
-          → framesOf (unitIn (unitStart (cond x outside (cond y (before b) (after b (c - 1)))) z i) all (f .thread))
-          ≡ cond (eqb (cond x 0 c) 0 && z) (units.unitFrom t 0 (cond x (f ∷ framesOf ws) (q t))) []
-      go true y true ex ey =
-          unit-starts t all (on d g a o rest) e (eqb-true _ _ ex) ∙ ap (λ (l : List Frame). units.unitFrom t 0 l) (frames-first w f ws d)
-      go true y false ex ey = refl
-      go false true true ex ey = rw ey (h t (eqb-false _ _ ex))
-      go false true false ex ey = rw ey
-      go false false z ex ey = rw ey
-
-      here : framesOf (unitIn (unitStart (phaseOf m b c) (settled (phaseOf (getD (n .depths) t 0) (getD (k .begins) t 0) (getD (k .commits) t 0))) i) all (f .thread))
-          ≡ emitted guards (viewOf s j) q i f (framesOf ws)
-      here =
-          ap (λ (x : Bool). framesOf (unitIn (unitStart (phaseOf m b c) x i) all (f .thread)))
-          (settled-view n k t ∙ ap (λ (x : Run). run.settled x t) (o .run))
-          ∙ go (eqb m 0) (eqb c 0) (run.settled (onto guards (viewOf s j) i f) t) refl refl
 
   -- The end of the walk is that of the check.
   pub pass-end : {i : ℕ} {s : State} {j : Judging} {ws : List ℕ} → Pass guards i s j ws → judgeFrom guards i s j ws .state ≡ checkFrom i s ws .state

@@ -1,8 +1,9 @@
--- The numbers of the kinds of violation, and short names for replies.
+-- The numbers of the kinds of violation, short names for replies, and a refusal as one number.
 -- Quotes are from docs/FORMAT.md.
-use Prim.Native.Nat.{ℕ}
-use Rattle.frame.specs.Refusal.{refusedAt}
+use Prim.Native.Nat.{ℕ, _+_, _*_}
+use Rattle.frame.specs.Refusal.{refusalNumber, refusedAt}
 use Rattle.frame.specs.declared.Refusal.{Refusal}
+use Rattle.frame.specs.declared.Refused.{Refused}
 use Rattle.reply.specs.declared.Kind.{Kind}
 use Rattle.reply.specs.declared.Kind.the-variants as kind
 use Rattle.reply.specs.declared.Violation.{Violation}
@@ -26,3 +27,7 @@ reducible = reply.Judged verdict.Reducible
 
 abbrev pub violated : Violation → Reply
 violated v = reply.Judged (verdict.Violated v)
+
+-- A number that answers: the refusal's number in the high 32 bits and its place in the low 32; or no refusal, and the count answered.
+abbrev pub packed : Refused → ℕ
+packed r = refusalNumber (r .reason) * 4294967296 + r .place

@@ -1,8 +1,8 @@
-// What a judgement answers: a refusal, or a verdict.
+// What a judgement answers: a refusal, or a verdict. Also a refusal as one number, for C programs.
 use frame::Refused;
 use frame::Thread;
 ghost use mathlib.Core.Path.{_≡_};
-ghost use Rattle.reply.specs.Reply.{kindNumber};
+ghost use Rattle.reply.specs.Reply.{kindNumber, packed};
 
 pub enum Kind {
     GuardNotHeld,
@@ -45,4 +45,13 @@ pub fn kind_number(k: Kind) -> u8
         Kind::AcquireAfterCommit => 3,
         Kind::SetEmptied => 4,
     }
+}
+
+// A refusal as one number.
+pub fn pack(r: Refused) -> u64
+    ensures { λ n. ⌜ n ≡ packed r ⌝ }
+{
+    let reason = r.reason;
+    let number = frame::refusal_number(reason);
+    (number as u64) * 4294967296 + (r.place as u64)
 }

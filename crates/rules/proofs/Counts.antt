@@ -7,7 +7,7 @@ use mathlib.Core.List.{List, [], _∷_}
 use native.Mathlib.Omega.{arith}
 use borrow.Author.Tests.{eqb-true}
 use lib.Dec.{eqb, leb}
-use lib.ListN.{length, getD, set, length-set}
+use lib.ListN.{length, getD, length-set}
 use Rattle.frame.specs.Limits.{lockCount, deepest, mostHeld}
 use Rattle.frame.specs.Frame.{ObjectInRange}
 use Rattle.frame.specs.declared.Action.{Action}
@@ -24,14 +24,14 @@ use Rattle.soundness.proofs.Laws.{check-short, sound-fits, sound-first, spared,
 use Rattle.rules.specs.Figures.{LocksAreCounted}
 
 -- what is said of a lock by its owner and its count
-abbrev Is : ℕ → ℕ → Type 0
+abbrev pub Is : ℕ → ℕ → Type 0
 Is o c = ((o ≡ 0) × (c ≡ 0)) ⊎ ((0 < o) × (0 < c) × (c ≤ mostHeld))
 
 -- Each lock is counted, and the lists have an entry for each.
-record Counts (s : State) : Type 0 where
-  owners-long : length (s .owners) ≡ lockCount
-  counts-long : length (s .counts) ≡ lockCount
-  are : (l : Lock) → l .0 < lockCount → Is (ownerOf l s) (countOf l s)
+pub record Counts (s : State) : Type 0 where
+  pub owners-long : length (s .owners) ≡ lockCount
+  pub counts-long : length (s .counts) ≡ lockCount
+  pub are : (l : Lock) → l .0 < lockCount → Is (ownerOf l s) (countOf l s)
 
 is-cond : (b : Bool) (o c o′ c′ : ℕ) → Is o c → Is o′ c′ → Is (cond b o o′) (cond b c c′)
 is-cond true o c o′ c′ p q = p
@@ -72,7 +72,7 @@ module _ (s : State) (k : Counts s) (l : Lock) (small : l .0 < lockCount) where
   counted-release t (let-go e h) = put-count (countOf l s - 1) (omega arith) (omega arith) (omega (arith, most (k .are l small) (omega arith)))
 
 -- one action that passes
-counted-next : (t : ℕ) (a : Action) (s n : State) (x : Level) → ObjectInRange a → Counts s → stepAction t a s ≡ stepped (outcome.Next x) n → Counts n
+pub counted-next : (t : ℕ) (a : Action) (s n : State) (x : Level) → ObjectInRange a → Counts s → stepAction t a s ≡ stepped (outcome.Next x) n → Counts n
 unfolding stepAction
 counted-next t (action.Acquire l) s n x r k e = counted-acquire s k l r t (acquired t l s e)
 counted-next t (action.Release l) s n x r k e = counted-release s k l r t (released t l s e)
@@ -95,7 +95,7 @@ counted-from i s (w ∷ ws) c k =
     rw (q .is, q .passes) (counted-from (i + 1) (q .next) ws (q .rest) n)
 
 -- no lock is held at the start
-start-counts : Counts start
+pub start-counts : Counts start
 unfolding start
 start-counts = record { owners-long = refl; counts-long = refl; are = λ l h. inl (getD-filled lockCount (l .0) 0, getD-filled lockCount (l .0) 0) }
 

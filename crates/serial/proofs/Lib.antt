@@ -1,2 +1,2 @@
 -- Units: the unit writer's loop.
-pub mod Units
+mod Units

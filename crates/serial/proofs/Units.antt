@@ -1,6 +1,7 @@
--- The loop of the unit writer: its invariant, and the laws of a turn.
-use Prim.Native.Nat.{ℕ, _+_, _<_, _≤_}
-use mathlib.Core.Path.{_≡_, refl, sym, _∙_, ap, subst}
+-- The loop of the unit writer: what a word shows of its frame, the invariant, and the laws of a turn.
+use Prim.Native.Nat.{ℕ, _+_, _/_, _%_, _<_, _≤_}
+use mathlib.Core.Path.{_≡_, refl, _∙_, ap, subst}
+use mathlib.Core.Bool.{cond}
 use mathlib.Core.List.{List, [], _∷_}
 use native.Mathlib.Omega.{arith}
 use native.Mathlib.Numerals.{add-one}
@@ -8,38 +9,46 @@ use borrow.Author.Tests.{eq-eqb, ne-eqb}
 use lib.Dec.{eqb}
 use lib.ListN.{length, getD, drop, set, drop-of-length-le}
 use lib.Seq.{drop-cons}
-use mathlib.Core.Bool.{Bool, true, false, cond}
-use Rattle.laws.proofs.Logic.{never}
-use Rattle.frame.specs.Frame.{decodeWord}
-use Rattle.frame.specs.declared.Refused.{Refused}
-use Rattle.frame.specs.declared.Thread.{Thread}
-use Rattle.frame.specs.declared.Action.{Action}
-use Rattle.frame.specs.declared.Action.the-variants as action
-use Rattle.frame.specs.declared.Decoded.the-variants as decoded
-use Rattle.soundness.specs.Soundness.{nest}
-use Rattle.serial.specs.Walk.{unitFrom, unitOf, ownFrame}
-use Rattle.serial.specs.declared.UnitReply.the-variants as reply
-use Rattle.serial.specs.declared.Own.{Own}
-use Rattle.serial.specs.declared.Own.the-variants.{Mine, Other}
-use Rattle.frame.specs.declared.Decoded.{Decoded}
+use Rattle.laws.proofs.Logic.{either}
 use Rattle.laws.proofs.Written.{Written, written-none, written-one, room}
+use Rattle.frame.specs.Frame.{actionOf, decodeWord}
+use Rattle.frame.specs.declared.Thread.{Thread}
+use Rattle.frame.specs.declared.Frame.{Frame}
+use Rattle.frame.specs.declared.Decoded.{Decoded}
+use Rattle.frame.specs.declared.Decoded.the-variants as decoded
+use Rattle.frame.proofs.Laws.{shown, Operation, acquire, release, read, write, begin, end, operation}
+use Rattle.soundness.specs.Soundness.{nest, checkReply}
+use Rattle.soundness.specs.declared.CheckReply.the-variants as check
+use Rattle.soundness.proofs.Laws.{sound-not-bad}
+use Rattle.serial.specs.Walk.{mine, other, ownFrame, depthBy, unitFrom, unitOf}
 
--- an action is one block deeper at most
-nest-low : (d : ℕ) (a : Action) → nest d a ≤ d + 1
-nest-low d (action.Acquire l) = omega arith
-nest-low d (action.Release l) = omega arith
-nest-low d (action.Read v) = omega arith
-nest-low d (action.Write v) = omega arith
-nest-low d action.Begin = omega arith
-nest-low d action.End = omega arith
-
-own-low : (w : Decoded) (t : Thread) (d : ℕ) {d′ : ℕ} → ownFrame w t d ≡ Mine d′ → d′ ≤ d + 1
-own-low (decoded.Bad r) t d q = never (cc)
-own-low (decoded.Frame f) t d {d′} q = go (eqb (f .thread .0) (t .0)) refl
+-- a word of a sound recording decodes
+decodes : (ws : List ℕ) → checkReply ws ≡ check.Sound → (i : ℕ) → i < length ws → (f : Frame) × (decodeWord (getD ws i 0) ≡ decoded.Frame f)
+decodes ws s i h = go (decodeWord (getD ws i 0)) refl
   where
-    go : (b : Bool) → eqb (f .thread .0) (t .0) ≡ b → d′ ≤ d + 1
-    go true e = let z : Mine (nest d (f .action)) ≡ Mine d′ = rw e at q in let y : nest d (f .action) ≡ d′ = cc in omega (arith, nest-low d (f .action))
-    go false e = let z : Other ≡ Mine d′ = rw e at q in never (cc)
+    go : (d : Decoded) → decodeWord (getD ws i 0) ≡ d → (f : Frame) × (decodeWord (getD ws i 0) ≡ decoded.Frame f)
+    go (decoded.Frame f) e = (f, e)
+    go (decoded.Bad r) e = sound-not-bad ws s i h e
+
+-- the depth by an operation is that by its action, and one deeper at most
+nest-by : {op : ℕ} → Operation op → (o d : ℕ) → nest d (actionOf op o) ≡ depthBy op d
+nest-by acquire o d = refl
+nest-by release o d = refl
+nest-by read o d = refl
+nest-by write o d = refl
+nest-by begin o d = refl
+nest-by end o d = refl
+
+by-low : (op d : ℕ) → depthBy op d ≤ d + 1
+by-low op d = either (λ (x : ℕ). x ≤ d + 1) (eqb op 5) (omega arith) (either (λ (x : ℕ). x ≤ d + 1) (eqb op 6) (omega arith) (omega arith))
+
+-- the operation and the thread of a word that decodes are those of its frame
+own-word : (w : ℕ) (f : Frame) → decodeWord w ≡ decoded.Frame f → (t : Thread) (d : ℕ)
+    → ownFrame (decodeWord w) t d ≡ cond (eqb (w / 65536 % 256) (t .0)) (mine (depthBy (w / 16777216) d)) other
+own-word w f e t d =
+    let s = shown (w / 16777216) (w / 65536 % 256) (w % 65536) f e in
+    let p = nest-by (operation (w / 16777216) (s .low) (s .high)) (w % 65536) d in
+    rw (e, s .frame) (ap (λ (x : ℕ). cond (eqb (w / 65536 % 256) (t .0)) (mine x) other) p)
 
 -- the loop of the unit writer
 pub record UnitInv (ws : List ℕ) (b : ℕ) (t : Thread) (out₀ out : List ℕ) (n d i : ℕ) : Type 0 where
@@ -55,35 +64,32 @@ module _ {ws : List ℕ} {b : ℕ} {t : Thread} {out₀ out : List ℕ} {n d i :
   unfolding unitFrom
   unit-ends h = subst (λ (l : List ℕ). Written out₀ out n (unitOf ws b t) (unitFrom t d l)) (drop-of-length-le ws h) (inv .written)
 
-  module _ (h : i < length ws) {w : Decoded} (e₀ : w ≡ decodeWord (getD ws i 0)) {o : Own} (e₁ : o ≡ ownFrame w t d) where
-    e : o ≡ ownFrame (decodeWord (getD ws i 0)) t d
-    e = e₁ ∙ rw e₀
+  module _ (s : checkReply ws ≡ check.Sound) (h : i < length ws) where
+    abbrev word : ℕ
+    word = getD ws i 0
 
-    other-turn : o ≡ Other → unitFrom t d (drop i ws) ≡ unitFrom t d (drop (i + 1) ws)
+    seen : ownFrame (decodeWord word) t d ≡ cond (eqb (word / 65536 % 256) (t .0)) (mine (depthBy (word / 16777216) d)) other
+    seen = let f = decodes ws s i h in own-word word (f .0) (f .1) t d
+
+    other-turn : (word / 65536 % 256 ≡ t .0 → ⊥) → unitFrom t d (drop i ws) ≡ unitFrom t d (drop (i + 1) ws)
     unfolding unitFrom
-    other-turn e′ = rw (drop-cons ws i 0 h, ← e, e′, add-one)
+    other-turn e = rw (drop-cons ws i 0 h, seen, ne-eqb _ _ e, add-one i)
 
-    pub passes-over : o ≡ Other → UnitInv ws b t out₀ out n d (i + 1)
-    passes-over e′ = record { low = omega (arith, inv .low); written = subst (λ (l : List ℕ). Written out₀ out n (unitOf ws b t) l) (other-turn e′) (inv .written) }
+    pub passes-over : (word / 65536 % 256 ≡ t .0 → ⊥) → UnitInv ws b t out₀ out n d (i + 1)
+    passes-over e = record { low = omega (arith, inv .low); written = subst (λ (l : List ℕ). Written out₀ out n (unitOf ws b t) l) (other-turn e) (inv .written) }
 
-    module _ {d′ : ℕ} (e′ : o ≡ Mine d′) where
-      own-turn : unitFrom t d (drop i ws) ≡ getD ws i 0 ∷ cond (eqb d′ 0) [] (unitFrom t d′ (drop (i + 1) ws))
+    module _ (e : word / 65536 % 256 ≡ t .0) where
+      own-turn : unitFrom t d (drop i ws) ≡ word ∷ cond (eqb (depthBy (word / 16777216) d) 0) [] (unitFrom t (depthBy (word / 16777216) d) (drop (i + 1) ws))
       unfolding unitFrom
-      own-turn = rw (drop-cons ws i 0 h, ← e, e′, add-one)
+      own-turn = rw (drop-cons ws i 0 h, seen, eq-eqb _ _ e, add-one i)
 
       module _ (r : length (unitOf ws b t) ≤ length out₀) where
         pub has-room : n < length out
         has-room = omega (arith, room (inv .written) r, ap length own-turn)
 
-        pub copies : (d′ ≡ 0 → ⊥) → UnitInv ws b t out₀ (set out n (getD ws i 0)) (n + 1) d′ (i + 1)
-        copies z = record { low = omega (arith, inv .low, own-low w t d (sym e₁ ∙ e′)); written = written-one (subst (λ (l : List ℕ). Written out₀ out n (unitOf ws b t) l) (own-turn ∙ rw (ne-eqb d′ 0 z)) (inv .written)) has-room }
+        module _ {d′ : ℕ} (q : d′ ≡ depthBy (word / 16777216) d) where
+          pub copies : (d′ ≡ 0 → ⊥) → UnitInv ws b t out₀ (set out n word) (n + 1) d′ (i + 1)
+          copies z = record { low = omega (arith, inv .low, by-low (word / 16777216) d); written = written-one (subst (λ (l : List ℕ). Written out₀ out n (unitOf ws b t) l) (own-turn ∙ rw (← q, ne-eqb d′ 0 z)) (inv .written)) has-room }
 
-        pub copies-last : d′ ≡ 0 → Written out₀ (set out n (getD ws i 0)) (n + 1) (unitOf ws b t) []
-        copies-last z = written-one (subst (λ (l : List ℕ). Written out₀ out n (unitOf ws b t) l) (own-turn ∙ rw (eq-eqb d′ 0 z)) (inv .written)) has-room
-
--- the place behind a unit; where one is answered, there is no refusal
-pub same-behind : {m n : ℕ} → reply.Behind m ≡ reply.Behind n → m ≡ n
-same-behind e = cc
-
-pub never-refused : {A : Type 0} {x : Refused} {n : ℕ} → reply.Refused x ≡ reply.Behind n → A
-never-refused e = never (cc)
+          pub copies-last : d′ ≡ 0 → Written out₀ (set out n word) (n + 1) (unitOf ws b t) []
+          copies-last z = written-one (subst (λ (l : List ℕ). Written out₀ out n (unitOf ws b t) l) (own-turn ∙ rw (← q, eq-eqb d′ 0 z)) (inv .written)) has-room

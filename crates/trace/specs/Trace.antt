@@ -15,7 +15,8 @@ use Rattle.guards.specs.declared.GuardsReply.the-variants as guards
 use Rattle.reply.specs.declared.Reply.{Reply}
 use Rattle.line.specs.Line.{lineLength, verdictLine}
 use Rattle.verdict.specs.Verdict.{inferredSets}
-use Rattle.answer.specs.Answer.{packed, replyKind}
+use Rattle.reply.specs.Reply.{packed}
+use Rattle.answer.specs.Answer.{replyKind}
 
 abbrev pub readAnswer : ReadReply → ℕ
 readAnswer (read.Lines n) = n

@@ -40,7 +40,7 @@ pub extern "C" fn trace_read(text: &[u8], words: &mut [u32]) -> u64
     let q = text::read_recording(text, words);
     match q {
         ReadReply::Lines(n) => n as u64,
-        ReadReply::Refused(x) => answer::pack(x),
+        ReadReply::Refused(x) => reply::pack(x),
     }
 }
 
@@ -53,7 +53,7 @@ pub extern "C" fn trace_guards(list: &[u8]) -> u64
     let q = g.reply;
     match q {
         GuardsReply::Lines(n) => n as u64,
-        GuardsReply::Refused(x) => answer::pack(x),
+        GuardsReply::Refused(x) => reply::pack(x),
     }
 }
 

@@ -1,7 +1,7 @@
 -- The numbers that answer: the refusal's number in the high 32 bits and its place in the low 32 (`packed`), or what is answered.
 use Prim.Native.Nat.{ℕ, _+_, _*_}
 use Rattle.frame.specs.declared.Refused.{Refused}
-use Rattle.answer.specs.Answer.{packed}
+use Rattle.reply.specs.Reply.{packed}
 use Rattle.equal.specs.declared.Side.{Side}
 use Rattle.equal.specs.declared.Side.the-variants as side
 use Rattle.equal.specs.declared.EqualReply.{EqualReply}

@@ -17,8 +17,8 @@ fn pack_side(side: Side, r: Refused) -> u64
     ensures { λ n. ⌜ n ≡ packedSide side r ⌝ }
 {
     match side {
-        Side::Left => answer::pack(r),
-        Side::Right => answer::pack(r) + 1099511627776,
+        Side::Left => reply::pack(r),
+        Side::Right => reply::pack(r) + 1099511627776,
     }
 }
 
@@ -40,7 +40,7 @@ fn pack_order(q: OrderReply) -> u64
 {
     match q {
         OrderReply::Written(n) => n as u64,
-        OrderReply::Refused(x) => answer::pack(x),
+        OrderReply::Refused(x) => reply::pack(x),
     }
 }
 

@@ -13,7 +13,7 @@ use Rattle.fields.specs.Fields.{writtenLine}
 use Rattle.fields.specs.declared.LineReply.{LineReply}
 use Rattle.fields.specs.declared.LineReply.the-variants as line
 use Rattle.fields.specs.declared.LineWritten.{LineWritten}
-use Rattle.answer.specs.Answer.{packed}
+use Rattle.reply.specs.Reply.{packed}
 use Rattle.tracetext.specs.Texts.{lineAnswer, lineOver, writeLineAnswer, writeLineAfter}
 
 module _ (f : Fields) (buffer : List ℕ) {w : LineWritten} (room : lineLength ≤ length buffer) (e : w ≡ writtenLine f) where

@@ -17,7 +17,7 @@ use Rattle.fields.specs.declared.FieldsReply.{FieldsReply}
 use Rattle.fields.specs.declared.FieldsReply.the-variants as fields
 use Rattle.fields.specs.declared.LineReply.{LineReply}
 use Rattle.fields.specs.declared.LineReply.the-variants as line
-use Rattle.answer.specs.Answer.{packed}
+use Rattle.reply.specs.Reply.{packed}
 
 abbrev pub writeAnswer : WriteReply → ℕ
 writeAnswer (write.Written n) = n

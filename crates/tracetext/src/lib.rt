@@ -26,7 +26,7 @@ pub extern "C" fn trace_write(words: &[u32], text: &mut [u8], place: usize) -> u
     let q = writer::write_recording(words, text, place);
     match q {
         WriteReply::Written(n) => n as u64,
-        WriteReply::Refused(x) => answer::pack(x),
+        WriteReply::Refused(x) => reply::pack(x),
     }
 }
 
@@ -62,7 +62,7 @@ pub extern "C" fn trace_line_read(
             *locks = f.locks;
             0
         }
-        FieldsReply::Refused(x) => answer::pack(x),
+        FieldsReply::Refused(x) => reply::pack(x),
     }
 }
 
@@ -81,7 +81,7 @@ pub extern "C" fn trace_line_write(
     ensures contents { λ n. ⌜ now (line .exit) ≡ writeLineAfter (given kind frame thread begin commit locks) (now (line .entry)) ⌝ }
 {
     if line.len() < LINE {
-        return answer::pack(Refused {
+        return reply::pack(Refused {
             reason: Refusal::LineBuffer,
             place: LINE_PLACE,
         });
@@ -101,6 +101,6 @@ pub extern "C" fn trace_line_write(
             line::put_line(line, l);
             LINE as u64
         }
-        LineReply::Refused(x) => answer::pack(x),
+        LineReply::Refused(x) => reply::pack(x),
     }
 }

@@ -4,7 +4,7 @@ use Rattle.reply.specs.declared.Verdict.the-variants.{Reducible}
 use Rattle.pass.specs.Pass.{fullSets, judgement}
 use Rattle.pass.proofs.Judgement.{judgement-fits, judgement-sound}
 use Rattle.orderlaws.proofs.Order.{walk-is-order, order-length, closed-open}
-use Rattle.order.proofs.Laws.{says-reducible, says-irreducible, walked, not-reducible, not-reducible-out, still-open, still-open-out, no-room, no-room-out, is-written, is-written-out}
+use Rattle.order.proofs.Laws.{says-reducible, says-irreducible, not-reducible, not-reducible-out, still-open, still-open-out, no-room, no-room-out, is-written, is-written-out}
 use borrow.Author.Needs.{needs}
 use Rattle.order.proofs.under_guards.Statement.{statement}
 use Rattle.order.proofs.under_guards.Tie as tie
@@ -74,23 +74,17 @@ write-order-requires c κs =
     let d = closed-open g ws r w in
     (judgement-sound g fullSets ws Reducible r, rw (walk-is-order g ws r d, order-length g ws r d) (c .before .if2 .left))
 
-is-irreducible-requires-2 : tie.Need-is-irreducible-requires-2
-is-irreducible-requires-2 c κs = search needs
+enum-known-w : tie.Need-enum-known-w
+enum-known-w c = search needs
 
-refusal-requires-2 : tie.Need-refusal-requires-2
-refusal-requires-2 c κs = search needs
+enum-told-2 : tie.Need-enum-told-2
+enum-told-2 c = search needs
 
 same-length : tie.Need-same-length
 same-length c = search needs
 
 returns-4 : tie.Need-returns-4
-unfolding fullSets
-returns-4 c =
-    let a = c .before .before .before .before .before .before .before .before .before .before .before .before .before .before .before .before .args in
-    let g = a .guards .now in
-    let ws = a .words .now in
-    let r = says-reducible _ (judgement g fullSets ws .reply) _ (c .before .before .before .before .before .before .before .before .before .before .before .before .judge-recording .ensures .0) (c .before .before .before .before .before .before .before .before .before .before .before .is-irreducible .ensures) (c .before .before .before .before .before .before .before .before .before .before .if1 .left) in
-    walked g ws _ _ r (c .before .before .before .before .before .write-order .ensures .0) (c .before .before .is-irreducible2 .ensures) (c .before .if3 .taken)
+returns-4 c = search needs
 
 same-length-2 : tie.Need-same-length-2
 same-length-2 c = search needs
@@ -120,8 +114,8 @@ under-guards-spec =
     cast-n
     returns-3
     write-order-requires
-    is-irreducible-requires-2
-    refusal-requires-2
+    enum-known-w
+    enum-told-2
     same-length
     returns-4
     same-length-2

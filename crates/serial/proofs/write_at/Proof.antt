@@ -1,14 +1,12 @@
 -- The unit stands at the front of the part that was lent.
 use Prim.Native.Nat.{_+_}
 use mathlib.Core.Path.{_≡_, sym, ap, _∙_}
-use native.Mathlib.Omega.{arith}
-use borrow.Author.Needs.{needs}
 use mathlib.Core.List.{_++_}
+use native.Mathlib.Omega.{arith}
 use lib.ListN.{length, take, drop, take-append-drop}
-use Rattle.serial.specs.declared.UnitReply.the-variants.{Behind}
-use Rattle.serial.specs.Walk.{unitOf}
 use Rattle.laws.proofs.Written.{lent-fits, lent-part}
-use Rattle.serial.proofs.Units.{same-behind}
+use Rattle.serial.specs.Walk.{unitOf}
+use borrow.Author.Needs.{needs}
 use Rattle.serial.proofs.write_at.Statement.{statement}
 use Rattle.serial.proofs.write_at.Tie as tie
 
@@ -22,7 +20,7 @@ returns : tie.Need-returns
 returns c =
     let a = c .before .before .before .before .args in
     let z : a .at ≡ a .at + 0 = omega arith in
-    rw (c .enum-told .given .1) (ap Behind z, sym (take-append-drop (a .at) (a .out .now)) ∙ ap (λ m. take (a .at) (a .out .now) ++ drop m (a .out .now)) z)
+    rw (c .enum-told .given .1) (z, sym (take-append-drop (a .at) (a .out .now)) ∙ ap (λ m. take (a .at) (a .out .now) ++ drop m (a .out .now)) z)
 
 cast-from : tie.Need-cast-from
 cast-from c = search needs
@@ -43,31 +41,18 @@ write-unit-requires : tie.Need-write-unit-requires
 write-unit-requires c κs =
     (c .before .before .before .before .before .before .pre .0, lent-fits (unitOf (c .before .before .before .before .before .before .args .words .now) (c .before .before .start .given .0 .0) (c .before .before .before .before .before .before .args .t)) (c .before .before .before .before .before .before .args .out .now) (c .before .before .before .before .before .before .args .at) (rw (c .before .before .start .given .1) at (c .before .before .before .before .before .before .pre .1)))
 
-enum-known-q : tie.Need-enum-known-q
-enum-known-q c = search needs
-
-enum-told-2 : tie.Need-enum-told-2
-enum-told-2 c = search needs
+add-result : tie.Need-add-result
+add-result c =
+    let p = rw (c .before .before .before .before .before .start .given .1) at (c .before .before .before .before .before .before .before .before .before .pre .1) in
+    omega (arith, p, c .before .before .write-unit .ensures .0, c .before .before .before .before .before .before .before .before .before .good)
 
 same-length : tie.Need-same-length
 same-length c = search needs
 
 returns-2 : tie.Need-returns-2
-returns-2 c = search needs
-
-add-t10 : tie.Need-add-t10
-add-t10 c =
-    let p = rw (c .before .before .before .before .before .before .before .before .start .given .1) at (c .before .before .before .before .before .before .before .before .before .before .before .before .pre .1) in
-    omega (arith, p, same-behind (sym (c .before .q .given .1) ∙ c .before .before .before .before .before .write-unit .ensures .0), c .before .before .before .before .before .before .before .before .before .before .before .before .good)
-
-same-length-2 : tie.Need-same-length-2
-same-length-2 c = search needs
-
-returns-3 : tie.Need-returns-3
-returns-3 c =
-    let n = same-behind (sym (c .before .q .given .1) ∙ c .before .before .before .before .before .write-unit .ensures .0) in
-    let u = unitOf (c .before .before .before .before .before .before .before .before .before .before .before .before .args .words .now) (c .before .before .before .before .before .before .before .before .start .given .0 .0) (c .before .before .before .before .before .before .before .before .before .before .before .before .args .t) in
-    rw (c .before .before .before .before .before .before .before .before .start .given .1) (ap (λ m. Behind (c .before .before .before .before .before .before .before .before .before .before .before .before .args .at + m)) n, lent-part u (c .before .before .before .before .before .before .before .before .before .before .before .before .args .out .now) (c .before .before .before .before .before .before .before .before .before .before .before .before .args .at) (length u) (c .before .before .before .before .before .write-unit .ensures .1))
+returns-2 c =
+    let u = unitOf (c .before .before .before .before .before .before .before .before .before .args .words .now) (c .before .before .before .before .before .start .given .0 .0) (c .before .before .before .before .before .before .before .before .before .args .t) in
+    rw (c .before .before .before .before .before .start .given .1) (ap (λ m. c .before .before .before .before .before .before .before .before .before .args .at + m) (c .before .before .write-unit .ensures .0), lent-part u (c .before .before .before .before .before .before .before .before .before .args .out .now) (c .before .before .before .before .before .before .before .before .before .args .at) (length u) (c .before .before .write-unit .ensures .1))
 
 pub write-at-spec : {M : Type 1} → statement M
 write-at-spec =
@@ -82,10 +67,6 @@ write-at-spec =
     part-write-unit-start
     part-write-unit-end
     write-unit-requires
-    enum-known-q
-    enum-told-2
+    add-result
     same-length
-    returns-2
-    add-t10
-    same-length-2
-    returns-3)
+    returns-2)
