@@ -137,6 +137,10 @@ kept-start j = record {
   committed-is = λ u. rw (getD-filled threadCount u 0);
 }
 
+commits-are : (guards : List ℕ) (f : Frame) {s n : State} {j : Judging} {x : Tables} {l : Level} → stepFrame f s ≡ stepped (outcome.Next l) n → Kept s j x
+    → committing guards (x .counts) (f .action) ≡ run.committing (seen guards (viewOf s j) f)
+commits-are guards f {s} {n} {j} {x} {l} g h = rw (h .counts-are) (step-commits guards (threadOf f) (f .action) s n j l g)
+
 -- whether a unit has committed, where the walk's mark m and the run's commit c agree
 after-is : (b z : Bool) (i m c : ℕ) → eqb m 0 ≡ eqb c 0 → eqb (cond z 0 (cond b 1 m)) 0 ≡ eqb (cond z 0 (cond (b && eqb c 0) (suc i) c)) 0
 after-is b true i m c e = refl
@@ -149,12 +153,9 @@ after-is false false i m c e = e
 
 module _ (guards : List ℕ) {i : ℕ} {s n : State} {j k : Judging} {x : Tables} {f : Frame} {l : Level} (r : InRange f)
     (g : stepFrame f s ≡ stepped (outcome.Next l) n) (o : OneFrame guards i f s j n k) (h : Kept s j x) where
-  commits-are : committing guards (x .counts) (f .action) ≡ run.committing (seen guards (viewOf s j) f)
-  commits-are = rw (h .counts-are) (step-commits guards (threadOf f) (f .action) s n j l g)
-
   next-committed : (u : ℕ) → eqb (getD (visited guards i f x .committed) u 0) 0 ≡ eqb (onto guards (viewOf s j) i f .committed u) 0
   unfolding visited
-  next-committed u = rw (getD-set (x .committed) (threadOf f) _ u (omega (arith, h .committed-long, r .thread)), commits-are, h .depths-are)
+  next-committed u = rw (getD-set (x .committed) (threadOf f) _ u (omega (arith, h .committed-long, r .thread)), commits-are guards f g h, h .depths-are)
       (by-test (eqb u (threadOf f))
       (λ q. rw q (after-is (run.committing (seen guards (viewOf s j) f)) (eqb (nest (getD (s .depths) (threadOf f) 0) (f .action)) 0) i
       (getD (x .committed) (threadOf f) 0) (viewOf s j .committed (threadOf f)) (h .committed-is (threadOf f))))
@@ -220,8 +221,8 @@ module _ (guards all : List ℕ) {i w : ℕ} {s : State} {j : Judging} {x : Tabl
   emits : {l : Level} {n : State} → stepFrame f s ≡ stepped (outcome.Next l) n
       → framesOf (unitIn (unitStart guards i f x) all (f .thread)) ≡ emitted guards (viewOf s j) q i f (framesOf ws)
   unfolding unitStart
-  emits {l} {n} g =
-      rw (h .counts-are, h .depths-are, step-commits guards (threadOf f) (f .action) s n j l g, settled-own)
+  emits g =
+      rw (commits-are guards f g h, h .depths-are, settled-own)
       (commits-unit (startIn (getD (s .depths) (threadOf f) 0) i (getD (x .starts) (threadOf f) 0))
       (units.unitFrom (threadOf f) 0 (cond (eqb (getD (s .depths) (threadOf f) 0) 0) (f ∷ framesOf ws) (q (threadOf f)))) unit-of
       (run.committing (seen guards (viewOf s j) f)) (eqb (nest (getD (s .depths) (threadOf f) 0) (f .action)) 0)

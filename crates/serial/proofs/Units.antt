@@ -13,22 +13,12 @@ use Rattle.laws.proofs.Logic.{either}
 use Rattle.laws.proofs.Written.{Written, written-none, written-one, room}
 use Rattle.frame.specs.Frame.{actionOf, decodeWord}
 use Rattle.frame.specs.declared.Thread.{Thread}
-use Rattle.frame.specs.declared.Frame.{Frame}
-use Rattle.frame.specs.declared.Decoded.{Decoded}
-use Rattle.frame.specs.declared.Decoded.the-variants as decoded
 use Rattle.frame.proofs.Laws.{shown, Operation, acquire, release, read, write, begin, end, operation}
 use Rattle.soundness.specs.Soundness.{nest, checkReply}
 use Rattle.soundness.specs.declared.CheckReply.the-variants as check
-use Rattle.soundness.proofs.Laws.{sound-not-bad}
+use Rattle.exchange.specs.Exchange.{frameOf}
+use Rattle.exchange.proofs.Frames.{Decodes, sound-decodes}
 use Rattle.serial.specs.Walk.{mine, other, ownFrame, depthBy, unitFrom, unitOf}
-
--- a word of a sound recording decodes
-decodes : (ws : List ℕ) → checkReply ws ≡ check.Sound → (i : ℕ) → i < length ws → (f : Frame) × (decodeWord (getD ws i 0) ≡ decoded.Frame f)
-decodes ws s i h = go (decodeWord (getD ws i 0)) refl
-  where
-    go : (d : Decoded) → decodeWord (getD ws i 0) ≡ d → (f : Frame) × (decodeWord (getD ws i 0) ≡ decoded.Frame f)
-    go (decoded.Frame f) e = (f, e)
-    go (decoded.Bad r) e = sound-not-bad ws s i h e
 
 -- the depth by an operation is that by its action, and one deeper at most
 nest-by : {op : ℕ} → Operation op → (o d : ℕ) → nest d (actionOf op o) ≡ depthBy op d
@@ -43,10 +33,10 @@ by-low : (op d : ℕ) → depthBy op d ≤ d + 1
 by-low op d = either (λ (x : ℕ). x ≤ d + 1) (eqb op 5) (omega arith) (either (λ (x : ℕ). x ≤ d + 1) (eqb op 6) (omega arith) (omega arith))
 
 -- the operation and the thread of a word that decodes are those of its frame
-own-word : (w : ℕ) (f : Frame) → decodeWord w ≡ decoded.Frame f → (t : Thread) (d : ℕ)
+own-word : (w : ℕ) → Decodes w → (t : Thread) (d : ℕ)
     → ownFrame (decodeWord w) t d ≡ cond (eqb (w / 65536 % 256) (t .0)) (mine (depthBy (w / 16777216) d)) other
-own-word w f e t d =
-    let s = shown (w / 16777216) (w / 65536 % 256) (w % 65536) f e in
+own-word w e t d =
+    let s = shown (w / 16777216) (w / 65536 % 256) (w % 65536) (frameOf w) e in
     let p = nest-by (operation (w / 16777216) (s .low) (s .high)) (w % 65536) d in
     rw (e, s .frame) (ap (λ (x : ℕ). cond (eqb (w / 65536 % 256) (t .0)) (mine x) other) p)
 
@@ -69,7 +59,7 @@ module _ {ws : List ℕ} {b : ℕ} {t : Thread} {out₀ out : List ℕ} {n d i :
     word = getD ws i 0
 
     seen : ownFrame (decodeWord word) t d ≡ cond (eqb (word / 65536 % 256) (t .0)) (mine (depthBy (word / 16777216) d)) other
-    seen = let f = decodes ws s i h in own-word word (f .0) (f .1) t d
+    seen = own-word word (sound-decodes ws s i h) t d
 
     other-turn : (word / 65536 % 256 ≡ t .0 → ⊥) → unitFrom t d (drop i ws) ≡ unitFrom t d (drop (i + 1) ws)
     unfolding unitFrom
