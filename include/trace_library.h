@@ -1,6 +1,6 @@
 /*
- * The parts of the trace check: text read and written, guard lists, verdicts, equality and serial
- * orders on words, verdict lines read and written.
+ * The parts of the trace check: text read and written, guard lists, verdicts, equality, serial
+ * orders and displacements on words, verdict lines read and written.
  *
  * Every pointer must be valid for its length (counted in elements), aligned for its element type
  * and not null even if the length is 0. A buffer that is written must not overlap another.
@@ -9,8 +9,8 @@
  * A uint64_t reply holds the refusal's number in the high 32 bits, 0 if there is none. The low
  * 32 bits hold the refusal's place, or without one the count answered. trace_equal adds to this.
  *
- * trace_equal and the two serial orders are in libtraceorder.a; trace_write, trace_line_read and
- * trace_line_write in libtracetext.a; the others in libtrace.a.
+ * trace_equal, the two serial orders and the two lists of displacements are in libtraceorder.a;
+ * trace_write, trace_line_read and trace_line_write in libtracetext.a; the others in libtrace.a.
  */
 #ifndef TRACE_LIBRARY_H
 #define TRACE_LIBRARY_H
@@ -98,6 +98,24 @@ uint64_t trace_serial_declared(const uint8_t *list, size_t list_len, const uint3
  */
 uint64_t trace_serial_inferred(const uint32_t *words, size_t words_len, uint32_t *out,
                                size_t out_len);
+
+/*
+ * How far each frame moves, with declared guards: moves[p] becomes the place in the serial order
+ * of the frame recorded at p, less p; negative where it moved earlier, 0 where it stayed.
+ * words[p] stands at place p + moves[p] of the order, and all of them add up to 0.
+ * Count: words_len; that many numbers of moves are written, later ones keep their contents.
+ * Refusals as for trace_serial_declared, but for 21 in the place of 15: moves_len is below
+ * words_len (place: words_len). A refusal writes nothing.
+ */
+uint64_t trace_moves_declared(const uint8_t *list, size_t list_len, const uint32_t *words,
+                              size_t words_len, int32_t *moves, size_t moves_len);
+
+/*
+ * How far each frame moves, with inferred guards: count, refusals and moves as for
+ * trace_moves_declared, without 1, 11 and 12.
+ */
+uint64_t trace_moves_inferred(const uint32_t *words, size_t words_len, int32_t *moves,
+                              size_t moves_len);
 
 /*
  * Writes a sound recording as text, a line for each frame, from place on. It need not be

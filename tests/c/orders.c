@@ -1,8 +1,8 @@
 /*
- * The serial order and the comparison at the boundaries of docs/FORMAT.md, called as C programs
- * call them. Each line of standard input is a case; tests/c/orders.in says how one is written.
- * The name of each, and what its call answers and leaves, are written to standard output, to be
- * held to orders.out.
+ * The serial order, the displacements and the comparison at the boundaries of docs/FORMAT.md,
+ * called as C programs call them. Each line of standard input is a case; tests/c/orders.in says how
+ * one is written. The name of each, and what its call answers and leaves, are written to standard
+ * output, to be held to orders.out.
  * Every buffer is allocated at its exact size, so that a memory checker finds any access outside.
  */
 #include "trace_library.h"
@@ -120,26 +120,52 @@ static const char *bar(const char *from, const char *end)
     return at;
 }
 
+/* Each word. */
+static void show_words(const uint32_t *out, long count)
+{
+    for (long place = 0; place < count; place++)
+        printf("%016" PRIx64 "\n", (uint64_t)out[place]);
+}
+
+/* Each number, and how many of it follow one another. */
+static void show_moves(const int32_t *moves, long count)
+{
+    for (long place = 0, first = 0; place < count; place++)
+        if (place + 1 == count || moves[place + 1] != moves[place]) {
+            printf("%" PRId32 " x%ld\n", moves[place], place + 1 - first);
+            first = place + 1;
+        }
+}
+
 static void order(char letter, const char *text, const char *end, struct options given)
 {
+    int declared = letter == 't' || letter == 'd', displaced = letter == 'm' || letter == 'd';
     size_t list_len = 0;
     uint8_t *list = NULL;
-    if (letter == 't') {
+    if (declared) {
         const char *middle = bar(text, end);
         list = expand(text, middle, 1, &list_len);
         text = middle + 1;
     }
     struct words words = load(text, end, given);
     struct words out = nines(given.out < 0 ? 4097 : (size_t)given.out);
-    uint64_t reply = letter == 't'
-        ? trace_serial_declared(list, list_len, words.at, words.count, out.at, out.count)
-        : trace_serial_inferred(words.at, words.count, out.at, out.count);
+    int32_t *moves = (int32_t *)out.at;
+    uint64_t reply;
+    if (displaced)
+        reply = declared
+            ? trace_moves_declared(list, list_len, words.at, words.count, moves, out.count)
+            : trace_moves_inferred(words.at, words.count, moves, out.count);
+    else
+        reply = declared
+            ? trace_serial_declared(list, list_len, words.at, words.count, out.at, out.count)
+            : trace_serial_inferred(words.at, words.count, out.at, out.count);
     printf("%016" PRIx64 "\n", reply);
-    for (long place = given.from; place < given.from + given.shown; place++) {
-        if ((size_t)place >= out.count)
-            fail("no such word");
-        printf("%016" PRIx64 "\n", (uint64_t)out.at[place]);
-    }
+    if (given.from < 0 || given.shown < 0 || (size_t)(given.from + given.shown) > out.count)
+        fail("no such word");
+    if (displaced)
+        show_moves(moves + given.from, given.shown);
+    else
+        show_words(out.at + given.from, given.shown);
     free(list);
     free(words.at);
     free(out.at);
@@ -173,7 +199,7 @@ int main(void)
         struct options given = read_options(blank + 2, text - 1);
         if (letter == 'e')
             compare(text, end, given);
-        else if (letter == 's' || letter == 't')
+        else if (strchr("stmd", letter) != NULL)
             order(letter, text, end, given);
         else
             fail("no such call");

@@ -169,28 +169,47 @@ static int equals_to(const uint32_t *left, size_t left_len, const uint32_t *righ
 }
 
 /*
- * The serial order; no list: guards are inferred. On success expected holds the words;
- * otherwise all words stay untouched.
+ * The serial order or, if displaced, the displacements; no list: guards are inferred. On success
+ * expected holds the words or the numbers; otherwise all of them stay untouched.
  */
-static int orders_to(const char *list, const uint32_t *words, size_t words_len, size_t out_len,
-                     uint64_t reply, const uint32_t *expected)
+static int orders_or_moves_to(int displaced, const char *list, const uint32_t *words,
+                              size_t words_len, size_t out_len, uint64_t reply,
+                              const void *expected)
 {
     size_t list_len = list == NULL ? 0 : strlen(list);
     size_t written = reply >> 32 ? 0 : (size_t)reply;
     uint8_t *lent_list = copy_of(list, list_len);
     uint32_t *lent_words = copy_of(words, words_len * sizeof *words);
-    uint32_t *out = untouched(out_len * sizeof *out);
-    uint64_t given = list == NULL ? trace_serial_inferred(lent_words, words_len, out, out_len)
-                                  : trace_serial_declared(lent_list, list_len, lent_words,
-                                                          words_len, out, out_len);
+    void *out = untouched(out_len * sizeof(uint32_t));
+    uint64_t given;
+    if (displaced)
+        given = list == NULL ? trace_moves_inferred(lent_words, words_len, out, out_len)
+                             : trace_moves_declared(lent_list, list_len, lent_words, words_len,
+                                                    out, out_len);
+    else
+        given = list == NULL ? trace_serial_inferred(lent_words, words_len, out, out_len)
+                             : trace_serial_declared(lent_list, list_len, lent_words, words_len,
+                                                     out, out_len);
     int good = given == reply && memcmp(lent_words, words, words_len * sizeof *words) == 0;
     if (written > 0)
-        good = good && memcmp(out, expected, written * sizeof *out) == 0;
-    good = good && is_untouched(out + written, (out_len - written) * sizeof *out);
+        good = good && memcmp(out, expected, written * sizeof(uint32_t)) == 0;
+    good = good && is_untouched((uint32_t *)out + written, (out_len - written) * sizeof(uint32_t));
     free(out);
     free(lent_words);
     free(lent_list);
     return good;
+}
+
+static int orders_to(const char *list, const uint32_t *words, size_t words_len, size_t out_len,
+                     uint64_t reply, const uint32_t *expected)
+{
+    return orders_or_moves_to(0, list, words, words_len, out_len, reply, expected);
+}
+
+static int moves_to(const char *list, const uint32_t *words, size_t words_len, size_t moves_len,
+                    uint64_t reply, const int32_t *expected)
+{
+    return orders_or_moves_to(1, list, words, words_len, moves_len, reply, expected);
 }
 
 /* On success the text is written from place on; bytes outside, or all of them, stay untouched. */
@@ -283,6 +302,7 @@ static const uint32_t words_c[] = {0x05000000, 0x05010000, 0x01000000, 0x0400000
                                    0x01010000, 0x04010000, 0x06000000, 0x02010000, 0x06010000};
 static const uint32_t serial_c[] = {0x05000000, 0x01000000, 0x04000000, 0x02000000, 0x06000000,
                                     0x05010000, 0x01010000, 0x04010000, 0x02010000, 0x06010000};
+static const int32_t moves_c[] = {0, 4, -1, -1, -1, 1, 1, -3, 0, 0};
 static const uint32_t words_h[] = {0x03000000, 0x03010001};
 static const uint32_t reverse_h[] = {0x03010001, 0x03000000};
 static const uint32_t words_i[] = {0x03000000, 0x03010000};
@@ -383,12 +403,16 @@ static const uint32_t words_other_early[] = {0x01000003, 0x01000003, 0x02000003,
 static const uint32_t words_other_late[] = {0x01000003, 0x01000003, 0x02000003, 0x02000003,
                                             0x01010003};
 
+static const int32_t moves_again[] = {2, 2, 2, 2, 2, -5, -5, 0, 0};
+
 static void test_again(void)
 {
     CHECK(infers_to(words_again, 9, 1024, 33, "00000900FFFFFFFF0000000000000000", 5, 1));
     CHECK(declares_to("00050000\n", words_again, 9, 33, "00000900FFFFFFFF0000000000000000"));
     CHECK(orders_to(NULL, words_again, 9, 9, 9, serial_again));
     CHECK(orders_to("00050000\n", words_again, 9, 9, 9, serial_again));
+    CHECK(moves_to(NULL, words_again, 9, 9, 9, moves_again));
+    CHECK(moves_to("00050000\n", words_again, 9, 10, 9, moves_again));
     CHECK(equals_to(words_again, 9, serial_again, 9, 1));
     CHECK(infers_to(words_after, 7, 1024, 33, "00000700FFFFFFFF0000000000000000", 0, UINT64_MAX));
     CHECK(infers_to(words_after, 8, 1024, 33, "03000700000000030000000000000002", 0, UINT64_MAX));
@@ -433,6 +457,7 @@ static void test_most_holds(void)
     CHECK(orders_to(NULL, words, MOST, MOST, MOST, words));
     CHECK(orders_to(NULL, words, MOST + 1, 0, REFUSAL(20, 15), NULL));
     CHECK(orders_to("", words, MOST + 1, MOST + 1, REFUSAL(20, 15), NULL));
+    CHECK(moves_to("", words, MOST + 1, MOST + 1, REFUSAL(20, 15), NULL));
     CHECK(writes_to(words, MOST, 9 * MOST, 0, 9 * MOST, text));
     CHECK(writes_to(words, MOST + 1, 9 * (MOST + 1), 0, REFUSAL(20, 15), NULL));
     CHECK(writes_to(words, MOST + 1, 0, SIZE_MAX, REFUSAL(20, 15), NULL));
@@ -484,6 +509,8 @@ static void test_longest(void)
     CHECK(orders_to("", words, MOST, MOST + 1, MOST, words));
     CHECK(orders_to(NULL, words, MOST, MOST - 1, REFUSAL(15, 4096), NULL));
     CHECK(orders_to("", words, MOST + 1, MOST + 1, REFUSAL(2, 4096), NULL));
+    CHECK(moves_to(NULL, words, MOST, MOST - 1, REFUSAL(21, 4096), NULL));
+    CHECK(moves_to(NULL, words, MOST + 1, MOST + 1, REFUSAL(2, 4096), NULL));
     text[9 * MOST - 1] = '\n';
     CHECK(writes_to(words, MOST, 9 * MOST, 0, 9 * MOST, text));
     CHECK(writes_to(words, MOST, 9 * MOST + 5, 3, 9 * MOST, text));
@@ -593,6 +620,23 @@ int main(void)
     CHECK(orders_to("", begin_alone, 1, 1, REFUSAL(14, 0), NULL));
     CHECK(orders_to(NULL, words_c, 0, 0, 0, NULL));
     CHECK(orders_to("", words_c, 0, 2, 0, NULL));
+
+    /* trace_moves_inferred and trace_moves_declared */
+    CHECK(moves_to(NULL, words_c, COUNT(words_c), COUNT(words_c), COUNT(words_c), moves_c));
+    CHECK(moves_to(NULL, words_c, COUNT(words_c), COUNT(words_c) + 3, COUNT(words_c), moves_c));
+    CHECK(moves_to(NULL, words_c, COUNT(words_c), COUNT(words_c) - 1, REFUSAL(21, 10), NULL));
+    CHECK(moves_to(NULL, words_c, COUNT(words_c), 0, REFUSAL(21, 10), NULL));
+    CHECK(moves_to("00000000\n", words_c, COUNT(words_c), 10, 10, moves_c));
+    CHECK(moves_to("00000000\n", words_c, COUNT(words_c), 9, REFUSAL(21, 10), NULL));
+    CHECK(moves_to("00000000", words_c, COUNT(words_c), 10, REFUSAL(1, 0), NULL));
+    CHECK(moves_to("04000000\n", words_j, COUNT(words_j), 10, REFUSAL(11, 0), NULL));
+    CHECK(moves_to("", words_j, COUNT(words_j), 1, REFUSAL(7, 1), NULL));
+    CHECK(moves_to("", words_e, COUNT(words_e), 3, REFUSAL(13, 2), NULL));
+    CHECK(moves_to(NULL, words_a, COUNT(words_a), 0, REFUSAL(13, 4), NULL));
+    CHECK(moves_to(NULL, begin_alone, 1, 0, REFUSAL(14, 0), NULL));
+    CHECK(moves_to("", begin_alone, 1, 1, REFUSAL(14, 0), NULL));
+    CHECK(moves_to(NULL, words_c, 0, 0, 0, NULL));
+    CHECK(moves_to("", words_c, 0, 2, 0, NULL));
 
     /* trace_write, trace_line_read and trace_line_write */
     test_write();

@@ -1,8 +1,8 @@
 /*
- * The stack that the serial order uses. Each call runs on a stack of its own, filled with a
- * pattern before; its figure is how far below its caller's frame the pattern is gone. No figure
- * is above LIMIT, and none grows with the recording. A memory checker changes stacks: this
- * program runs without one.
+ * The stack that the serial order and the displacements use. Each call runs on a stack of its
+ * own, filled with a pattern before; its figure is how far below its caller's frame the pattern is
+ * gone. No figure is above LIMIT, and none grows with the recording. A memory checker changes
+ * stacks: this program runs without one.
  */
 #define _XOPEN_SOURCE 600
 
@@ -19,7 +19,7 @@
 /*
  * A call that refuses may use less than this more than one on no frames: for the function that
  * checks what follows a violation. It is a bit for each frame of the longest recording, so that no
- * table with an entry for each frame is below it. A call that writes the order uses no byte more.
+ * table with an entry for each frame is below it. A call that writes uses no byte more.
  */
 #define FOR_REFUSAL (LONGEST / 8)
 #define STACK (256 * 1024)
@@ -38,16 +38,22 @@ enum { ACQUIRE = 1, RELEASE, READ, WRITE, BEGIN, END, NO_OPERATION };
 /* A call, with the number of lines of its guard list, and the refusal of these, or 0. */
 struct request {
     const char *name;
-    int inferred;
+    enum call { SERIAL_INFERRED, SERIAL_DECLARED, MOVES_INFERRED, MOVES_DECLARED } call;
     size_t lines;
     uint64_t refusal;
 };
 
 static const struct request requests[] = {
-    {"trace_serial_inferred", 1, 0, 0},
-    {"trace_serial_declared, no guards", 0, 0, 0},
-    {"trace_serial_declared, a guard for each variable", 0, VARIABLES, 0},
-    {"trace_serial_declared, guards refused", 0, VARIABLES + 1, REFUSAL(12, VARIABLES)},
+    {"trace_serial_inferred", SERIAL_INFERRED, 0, 0},
+    {"trace_serial_declared, no guards", SERIAL_DECLARED, 0, 0},
+    {"trace_serial_declared, a guard for each variable", SERIAL_DECLARED, VARIABLES, 0},
+    {"trace_serial_declared, guards refused", SERIAL_DECLARED, VARIABLES + 1,
+     REFUSAL(12, VARIABLES)},
+    {"trace_moves_inferred", MOVES_INFERRED, 0, 0},
+    {"trace_moves_declared, no guards", MOVES_DECLARED, 0, 0},
+    {"trace_moves_declared, a guard for each variable", MOVES_DECLARED, VARIABLES, 0},
+    {"trace_moves_declared, guards refused", MOVES_DECLARED, VARIABLES + 1,
+     REFUSAL(12, VARIABLES)},
 };
 
 struct input {
@@ -62,7 +68,7 @@ static const struct input inputs[] = {
     {"a violation at frame 3", WRONG, CLOSED},
     {"a violation at the last frame", TURNS, VIOLATION},
     {"a block still open", TURNS, OPEN},
-    {"output one word short", TURNS, SHORT},
+    {"output one short", TURNS, SHORT},
     {"the last frame refused", TURNS, REFUSED},
     {"a violation at frame 3, the last refused", WRONG, REFUSED},
 };
@@ -70,10 +76,12 @@ static const struct input inputs[] = {
 static const size_t lengths[] = {8, 64, 512, LONGEST};
 
 /* What is lent to a call, what it answers, and its caller's frame. */
-static int inferred;
+static enum call call;
 static uint8_t list[GUARD_LINE * (VARIABLES + 1)];
 static uint32_t words[LONGEST], out[LONGEST], expected[LONGEST];
 static size_t list_len, words_len, out_len;
+/* The places of the recording in serial order. */
+static size_t order[LONGEST];
 static uint64_t reply;
 static uintptr_t caller;
 
@@ -89,8 +97,21 @@ static void fail(const char *what)
 static void on_stack(void)
 {
     caller = (uintptr_t)__builtin_frame_address(0);
-    reply = inferred ? trace_serial_inferred(words, words_len, out, out_len)
-                     : trace_serial_declared(list, list_len, words, words_len, out, out_len);
+    int32_t *moves = (int32_t *)out;
+    switch (call) {
+    case SERIAL_INFERRED:
+        reply = trace_serial_inferred(words, words_len, out, out_len);
+        break;
+    case SERIAL_DECLARED:
+        reply = trace_serial_declared(list, list_len, words, words_len, out, out_len);
+        break;
+    case MOVES_INFERRED:
+        reply = trace_moves_inferred(words, words_len, moves, out_len);
+        break;
+    case MOVES_DECLARED:
+        reply = trace_moves_declared(list, list_len, words, words_len, moves, out_len);
+        break;
+    }
 }
 
 static void run(void)
@@ -152,10 +173,10 @@ static void fill_turns(void)
             }
         /* The serial order: single frames as they are, then block after block. */
         for (n = first; n < first + 3 * threads; n++)
-            expected[n] = words[n];
+            order[n] = n;
         for (size_t thread = 0; thread < threads; thread++)
             for (size_t step = 3; step < 8; step++)
-                expected[n++] = words[first + step * threads + thread];
+                order[n++] = first + step * threads + thread;
     }
 }
 
@@ -169,12 +190,14 @@ static void fill_block(int inner)
         words[n] = FRAME(acquires ? ACQUIRE : RELEASE, 0, 0);
     }
     words[last] = FRAME(END, 0, 0);
-    memcpy(expected, words, words_len * sizeof words[0]);
+    for (size_t n = 0; n < words_len; n++)
+        order[n] = n;
 }
 
 /* Fills words and expected; what the call answers, if its list is not refused. */
 static uint64_t fill(const struct input *input, size_t frames)
 {
+    int displaced = call == MOVES_INFERRED || call == MOVES_DECLARED;
     words_len = out_len = frames;
     if (frames == 0)
         return 0;
@@ -182,6 +205,11 @@ static uint64_t fill(const struct input *input, size_t frames)
         fill_turns();
     else
         fill_block(input->shape == BLOCK);
+    for (size_t n = 0; n < frames; n++)
+        if (displaced)
+            expected[order[n]] = (uint32_t)(n - order[n]);
+        else
+            expected[n] = words[order[n]];
     /* The last frame ends a block that has committed; its thread is the last one. */
     uint32_t *last = &words[frames - 1];
     size_t thread = *last >> 16 & 0xFF;
@@ -194,7 +222,7 @@ static uint64_t fill(const struct input *input, size_t frames)
         return REFUSAL(14, frames - 1 - 4 * (thread + 1));
     case SHORT:
         out_len = frames - 1;
-        return REFUSAL(15, frames);
+        return REFUSAL(displaced ? 21 : 15, frames);
     case REFUSED:
         *last = FRAME(NO_OPERATION, thread, 0);
         return REFUSAL(4, frames - 1);
@@ -211,8 +239,8 @@ static void say(const struct request *request)
 /* The figure of a call on an input of so many frames. A wrong answer ends the program. */
 static size_t measure(const struct request *request, const struct input *input, size_t frames)
 {
+    call = request->call;
     uint64_t answer = fill(input, frames);
-    inferred = request->inferred;
     list_len = GUARD_LINE * request->lines;
     if (request->refusal != 0)
         answer = request->refusal;

@@ -22,9 +22,10 @@ unfoldable pub commandOf : List ℕ → Command
 commandOf w =
     cond (same w (bytes "verdict")) command.Verdict
     (cond (same w (bytes "serial")) command.Serial
+    (cond (same w (bytes "moves")) command.Moves
     (cond (same w (bytes "explain")) command.Explain
     (cond (same w (bytes "equal")) command.Equal
-    (cond (same w (bytes "line")) command.Line command.Unknown))))
+    (cond (same w (bytes "line")) command.Line command.Unknown)))))
 
 -- "RECORDING [--guards LIST]": n words in all, the program's name and the command among them.
 unfoldable pub judging : Command → ℕ → List ℕ → Request
@@ -35,6 +36,7 @@ judging c n option =
 abbrev pub requested : Command → ℕ → List ℕ → Request
 requested command.Verdict n option = judging command.Verdict n option
 requested command.Serial n option = judging command.Serial n option
+requested command.Moves n option = judging command.Moves n option
 requested command.Explain n option = judging command.Explain n option
 requested command.Equal n option = cond (eqb n 4) request.Compare (request.Misused command.Equal)
 requested command.Line n option = cond (eqb n 3) request.Line (request.Misused command.Line)

@@ -1,12 +1,12 @@
 // What the words of a command line ask for.
 use guards::Judgement;
 ghost use mathlib.Core.Path.{_≡_};
-ghost use Rattle.output.specs.Output.{bytes};
 ghost use Rattle.command.specs.Command.{same as sameText, commandOf, judging, requestOf};
 
 pub enum Command {
     Verdict,
     Serial,
+    Moves,
     Explain,
     Equal,
     Line,
@@ -49,6 +49,9 @@ pub fn command_of(word: &[u8]) -> Command
     if same(word, b"serial") {
         return Command::Serial;
     }
+    if same(word, b"moves") {
+        return Command::Moves;
+    }
     if same(word, b"explain") {
         return Command::Explain;
     }
@@ -87,6 +90,7 @@ pub fn request_of(n: usize, word: &[u8], option: &[u8]) -> Request
     match c {
         Command::Verdict => judge(Command::Verdict, n, option),
         Command::Serial => judge(Command::Serial, n, option),
+        Command::Moves => judge(Command::Moves, n, option),
         Command::Explain => judge(Command::Explain, n, option),
         Command::Equal => {
             if n == 4 {

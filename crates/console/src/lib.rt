@@ -1,22 +1,34 @@
 // The tool's words, its files and standard output. What the words ask for is said by crate command. Files are opened for reading only.
 use command::Command;
 use command::Request;
+use frame::MOST;
 use libc::STDOUT_FILENO;
 use text::MOST_BYTES;
 ghost use mathlib.Core.Path.{_≡_};
 ghost use Prim.Native.Nat.{_+_, _≤_};
 ghost use lib.ListN.{length};
 ghost use Rattle.text.specs.Text.{mostBytes};
+ghost use Rattle.output.specs.Output.{mostAnswer};
 
-// The bytes of a buffer: as many as a text may have, and one more. A file's bytes behind them change no answer: one of the lines before or that
-// byte refuses a text, and a line before it a guard list. Every answer fits too.
+// The bytes of a buffer for a file: as many as a text may have, and one more. A file's bytes behind them change no answer: one of the lines
+// before or that byte refuses a text, and a line before it a guard list.
 pub const ROOM: usize = MOST_BYTES + 1;
 
-// A buffer for a file or for what is printed: zeros, of which a caller's proof knows the number alone.
+// The bytes of a buffer for what is printed: every answer fits.
+pub const ANSWER: usize = 15 * MOST;
+
+// A buffer for a file: zeros, of which a caller's proof knows the number alone.
 pub fn room() -> [u8; ROOM]
     ensures { λ r. ⌜ mostBytes + 1 ≡ length r ⌝ }
 {
     [0; ROOM]
+}
+
+// The same for what is printed.
+pub fn answer_room() -> [u8; ANSWER]
+    ensures { λ r. ⌜ mostAnswer ≡ length r ⌝ }
+{
+    [0; ANSWER]
 }
 
 // The same for a word. Linux hands out none of more than 131,071 bytes.
@@ -41,6 +53,7 @@ fn help() {
     print(
         b"usage: tracetool verdict RECORDING [--guards LIST]   the verdict line
        tracetool serial RECORDING [--guards LIST]    the serial order as lines
+       tracetool moves RECORDING [--guards LIST]     how far each frame moves to its place in the serial order
        tracetool equal LEFT RIGHT                    equal, or not equal
        tracetool explain RECORDING [--guards LIST]   the answer in words
        tracetool line LINE                           a kept verdict line in words

@@ -17,6 +17,7 @@ use Rattle.frame.specs.Frame.{decodeWord}
 use Rattle.frame.specs.declared.Frame.{Frame}
 use Rattle.frame.specs.declared.Decoded.the-variants as decoded
 use Rattle.frame.specs.declared.Refused.{Refused}
+use Rattle.frame.specs.declared.Refusal.{Refusal}
 use Rattle.frame.specs.declared.Refusal.the-variants as refusal
 use Rattle.guards.specs.declared.GuardsReply.{GuardsReply}
 use Rattle.guards.specs.declared.GuardsReply.the-variants as guards
@@ -47,7 +48,7 @@ use Rattle.serial.specs.Order.{serialWords, Closed}
 use Rattle.orderlaws.proofs.Order.{order-exchanges, order-contiguous, closed-open}
 use Rattle.orderlaws.proofs.Open.{none-closed, first-open}
 use Rattle.order.specs.Order as asked-for
-use Rattle.order.specs.Order.{reducibleReply, closedReply, orderReply, outAfter, onList, orderUnder, outUnder}
+use Rattle.order.specs.Order.{reducibleReply, closedReply, replyBy, outAfter, onList, replyUnder, orderUnder, outUnder}
 use Rattle.order.specs.declared.OrderReply.{OrderReply}
 use Rattle.order.specs.declared.OrderReply.the-variants as order
 use Rattle.demand.specs.Demand.{Sound, RefusedBy, in-list, in-recording, irreducible, still-open, no-room, Asked, ThirdTerm}
@@ -94,12 +95,12 @@ judgement-refused table ws x e = go (checkReply ws) refl
     go check.Sound f = absurd (pass-refuses table 0 start (startJudging fullSets) ws x (sym (check-short ws (sound-fits ws f)) ∙ f) (rw f at e))
     go (check.Refused y) f = let g : reply.Refused y ≡ reply.Refused x = rw f at e in let h : y ≡ x = cc in f ∙ ap check.Refused h
 
--- A request: what is to hold for the order to be written, and that no refusal holds then.
-module _ (list : GuardsReply) (table ws out : List ℕ) where
+-- A request: what is to hold for it to be granted, and that no refusal holds then.
+module _ {A : Type 0} (short : Refusal) (list : GuardsReply) (table ws : List ℕ) (made out : List A) where
   abbrev Granted : Type 0
   Granted = (n : ℕ) × (list ≡ guards.Lines n) × Reducible table ws × Closed ws × (length ws ≤ length out)
 
-  not-both : {r : OrderReply} → RefusedBy list table ws out r → Granted → ⊥
+  not-both : {r : OrderReply} → RefusedBy short list table ws made out r → Granted → ⊥
   not-both (in-list {x = x} e) g = let z : guards.Refused x ≡ guards.Lines (g .0) = sym e ∙ g .1 in never (cc)
   not-both (in-recording {x = x} e c) g =
       let z : check.Refused x ≡ check.Sound = sym c ∙ judgement-sound table fullSets ws verdict.Reducible (g .2) in
@@ -110,12 +111,12 @@ module _ (list : GuardsReply) (table ws out : List ℕ) where
 
   -- the request answered by r, which decides what is left
   abbrev AskedBy : OrderReply → Type 0
-  AskedBy r = Asked list table ws out r (outAfter r (serialWords table ws) out)
+  AskedBy r = Asked short list table ws made out r (outAfter r made out)
 
   is-written : Granted → AskedBy (order.Written (length ws))
   is-written g = record { length-exactly-if = (λ e. g, λ h. refl); written = λ e. refl; refused-by = λ n. absurd (n refl) }
 
-  is-refused : (x : Refused) → RefusedBy list table ws out (order.Refused x) → AskedBy (order.Refused x)
+  is-refused : (x : Refused) → RefusedBy short list table ws made out (order.Refused x) → AskedBy (order.Refused x)
   is-refused x by = record { length-exactly-if = (λ e. no e, λ g. absurd (not-both by g)); written = λ e. no e; refused-by = λ n. (by, refl) }
     where
       no : {A : Type 0} → order.Refused x ≡ order.Written (length ws) → A
@@ -124,32 +125,41 @@ module _ (list : GuardsReply) (table ws out : List ℕ) where
   -- a list that is read
   module _ (n : ℕ) (read : list ≡ guards.Lines n) where
     by-room : (b : Bool) → ltb (length out) (length ws) ≡ b → Reducible table ws → Closed ws
-        → AskedBy (cond b (order.Refused (refusedAt refusal.OutputBuffer (length ws))) (order.Written (length ws)))
+        → AskedBy (cond b (order.Refused (refusedAt short (length ws))) (order.Written (length ws)))
     by-room true q r c = is-refused _ (no-room read r c (ltb-true (length out) (length ws) q))
     by-room false q r c = is-written (n, read, r, c, ltb-false (length out) (length ws) q)
 
-    by-mark : (m : Mark) → openAtEnd (judgement table fullSets ws) ≡ m → Reducible table ws → AskedBy (closedReply m (length ws) (length out))
+    by-mark : (m : Mark) → openAtEnd (judgement table fullSets ws) ≡ m → Reducible table ws → AskedBy (closedReply short m (length ws) (length out))
     by-mark (At b) q r = is-refused _ (still-open read r (first-open table ws r b q))
     by-mark Absent q r = by-room (ltb (length out) (length ws)) refl r (closed-open table ws r q)
 
     by-reply : (q : Reply) → judgement table fullSets ws .reply ≡ q
-        → AskedBy (cond (reducibleReply q) (closedReply (openAtEnd (judgement table fullSets ws)) (length ws) (length out)) (asked-for.irreducible q))
+        → AskedBy (cond (reducibleReply q) (closedReply short (openAtEnd (judgement table fullSets ws)) (length ws) (length out)) (asked-for.irreducible q))
     by-reply (reply.Refused x) e = is-refused x (in-recording read (judgement-refused table ws x e))
     by-reply (reply.Judged verdict.Reducible) e = by-mark (openAtEnd (judgement table fullSets ws)) refl e
     by-reply (reply.Judged (verdict.Violated v)) e = is-refused _ (irreducible read e)
 
-    when-read : AskedBy (orderReply table ws (length out))
-    unfolding orderReply
+    when-read : AskedBy (replyBy short table ws (length out))
+    unfolding replyBy
     when-read = by-reply (judgement table fullSets ws .reply) refl
 
-asked : (list : GuardsReply) (table ws out : List ℕ) → AskedBy list table ws out (onList list (orderReply table ws (length out)))
-asked (guards.Lines n) table ws out = when-read (guards.Lines n) table ws out n refl
-asked (guards.Refused x) table ws out = is-refused (guards.Refused x) table ws out x (in-list refl)
+module _ {A : Type 0} (short : Refusal) where
+  asked : (list : GuardsReply) (table ws : List ℕ) (made out : List A) → AskedBy short list table ws made out (onList list (replyBy short table ws (length out)))
+  asked (guards.Lines n) table ws made out = when-read short (guards.Lines n) table ws made out n refl
+  asked (guards.Refused x) table ws made out = is-refused short (guards.Refused x) table ws made out x (in-list refl)
+
+  -- of any call that answers so
+  pub asked-under : (j : Judgement) (list ws : List ℕ) (made out : List A)
+      → Asked short (guardsUnder j list .reply) (guardsUnder j list .table) ws made out (replyUnder short j list ws (length out))
+      (outAfter (replyUnder short j list ws (length out)) made out)
+  unfolding replyUnder
+  asked-under j list ws made out = asked (guardsUnder j list .reply) (guardsUnder j list .table) ws made out
 
 asked-for-order : (j : Judgement) (list ws out : List ℕ)
-    → Asked (guardsUnder j list .reply) (guardsUnder j list .table) ws out (orderUnder j list ws (length out)) (outUnder j list ws out)
-unfolding orderUnder outUnder
-asked-for-order j list ws out = asked (guardsUnder j list .reply) (guardsUnder j list .table) ws out
+    → Asked refusal.OutputBuffer (guardsUnder j list .reply) (guardsUnder j list .table) ws (serialWords (guardsUnder j list .table) ws) out
+    (orderUnder j list ws (length out)) (outUnder j list ws out)
+unfolding outUnder
+asked-for-order j list ws out = asked-under refusal.OutputBuffer j list ws (serialWords (guardsUnder j list .table) ws) out
 
 -- The third term.
 pub third-term : ThirdTerm

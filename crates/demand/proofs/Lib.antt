@@ -1,2 +1,3 @@
 -- The third term.
-pub mod Demand
+mod Demand
+mod Moves

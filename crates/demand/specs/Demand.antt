@@ -1,6 +1,6 @@
 -- The third term: one claim over whole recordings, about the definitions that the calls' contracts cite. What `equal::equal` answers is
--- `equalReply`; what `order::order` answers and leaves in the output is `orderUnder`, `outUnder`. In this order: a request for the serial
--- order, its refusal and its answer; the term.
+-- `equalReply`; what `order::order` answers and leaves in the output is `orderUnder`, `outUnder`. In this order: a request, its refusal and
+-- its answer; the term.
 -- Quotes are from docs/FORMAT.md.
 use Prim.Native.Nat.{ℕ, _≤_, _<_}
 use mathlib.Core.Path.{_≡_}
@@ -9,6 +9,7 @@ use mathlib.Core.List.{List, _++_}
 use lib.ListN.{length, drop}
 use Rattle.frame.specs.Refusal.{refusedAt}
 use Rattle.frame.specs.declared.Refused.{Refused}
+use Rattle.frame.specs.declared.Refusal.{Refusal}
 use Rattle.frame.specs.declared.Refusal.the-variants as refusal
 use Rattle.guards.specs.Guards.{guardsUnder}
 use Rattle.guards.specs.declared.Judgement.{Judgement}
@@ -31,8 +32,9 @@ use Rattle.order.specs.declared.OrderReply.the-variants as order
 abbrev pub Sound : List ℕ → Type 0
 Sound ws = checkReply ws ≡ check.Sound
 
--- A request for the serial order of ws into the output `out`. `list` is what reading the guard list answers, `table` the guards.
-module _ (list : GuardsReply) (table ws out : List ℕ) where
+-- A request on the recording ws, for what has an element for each of its frames: `made`, into the lent buffer `out`. `list` is what reading
+-- the guard list answers, `table` the guards, `short` the refusal of a buffer that is shorter than the recording.
+module _ {A : Type 0} (short : Refusal) (list : GuardsReply) (table ws : List ℕ) (made out : List A) where
   -- It is refused by the table of refusals, in the order of the tests: each where none before it is met.
   pub data RefusedBy : OrderReply → Type 0 where
     in-list : {x : Refused} → list ≡ guards.Refused x → RefusedBy (order.Refused x)
@@ -41,13 +43,13 @@ module _ (list : GuardsReply) (table ws out : List ℕ) where
     irreducible : {n : ℕ} {v : Violation} → list ≡ guards.Lines n → judgement table fullSets ws .reply ≡ violated v → RefusedBy (order.Refused (refusedAt refusal.Irreducible (v .frame)))
     -- "14: a block still open at the end; smallest place of an open outermost begin"
     still-open : {n b : ℕ} → list ≡ guards.Lines n → Reducible table ws → FirstOpen ws b → RefusedBy (order.Refused (refusedAt refusal.OpenBlock b))
-    -- "15: output shorter than the recording; its length"
-    no-room : {n : ℕ} → list ≡ guards.Lines n → Reducible table ws → Closed ws → length out < length ws → RefusedBy (order.Refused (refusedAt refusal.OutputBuffer (length ws)))
+    -- 15 or 21: "its length", "the recording's length"
+    no-room : {n : ℕ} → list ≡ guards.Lines n → Reducible table ws → Closed ws → length out < length ws → RefusedBy (order.Refused (refusedAt short (length ws)))
 
-  -- Its reply r, and what is left in the output: "the reply is that length", and the order; or a refusal, which changes nothing.
-  pub record Asked (r : OrderReply) (left : List ℕ) : Type 0 where
+  -- Its reply r, and what is left in the buffer: "the reply is that length", and what was asked for; or a refusal, which changes nothing.
+  pub record Asked (r : OrderReply) (left : List A) : Type 0 where
     pub length-exactly-if : r ≡ order.Written (length ws) ↔ (n : ℕ) × (list ≡ guards.Lines n) × Reducible table ws × Closed ws × (length ws ≤ length out)
-    pub written : r ≡ order.Written (length ws) → left ≡ serialWords table ws ++ drop (length ws) out
+    pub written : r ≡ order.Written (length ws) → left ≡ made ++ drop (length ws) out
     pub refused-by : (r ≡ order.Written (length ws) → ⊥) → RefusedBy r × (left ≡ out)
 
 -- "Equal exactly if exchanges lead from one to the other; and the serial order of every reducible, closed recording is equal to it, with no
@@ -58,4 +60,5 @@ ThirdTerm =
     × ((table ws : List ℕ) → Reducible table ws → Closed ws
     → (equalReply ws (serialWords table ws) ≡ equal.Equal) × Contiguous (λ t. 0) (serialWords table ws))
     × ((j : Judgement) (list ws out : List ℕ)
-    → Asked (guardsUnder j list .reply) (guardsUnder j list .table) ws out (orderUnder j list ws (length out)) (outUnder j list ws out))
+    → Asked refusal.OutputBuffer (guardsUnder j list .reply) (guardsUnder j list .table) ws (serialWords (guardsUnder j list .table) ws) out
+    (orderUnder j list ws (length out)) (outUnder j list ws out))

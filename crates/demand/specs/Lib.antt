@@ -1,2 +1,3 @@
--- The third term, as a type. Its proof is in proofs/Demand.
+-- What is asked of whole recordings, as types: Demand, the third term; Moves, displacements. Their proofs are in proofs/.
 pub mod Demand
+pub mod Moves

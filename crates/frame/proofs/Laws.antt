@@ -117,8 +117,8 @@ decode-parts t End h g = parts 6 t 0 h (omega arith) ∙ simp (lt-leb threadCoun
 pub decode-encode : (f : Frame) → InRange f → decodeWord (encodeFrame f) ≡ decoded.Frame f
 decode-encode f g = decode-parts (f .thread .0) (f .action) (g .thread) (g .object)
 
--- Every refusal's number is at most 20.
-pub number-small : (r : Refusal) → refusalNumber r ≤ 20
+-- Every refusal's number is at most 21.
+pub number-small : (r : Refusal) → refusalNumber r ≤ 21
 number-small refusal.Line = omega arith
 number-small refusal.TooLong = omega arith
 number-small refusal.WordBuffer = omega arith
@@ -139,3 +139,4 @@ number-small refusal.LineBuffer = omega arith
 number-small refusal.VerdictLine = omega arith
 number-small refusal.TextBuffer = omega arith
 number-small refusal.TooOften = omega arith
+number-small refusal.MovesBuffer = omega arith

@@ -25,6 +25,7 @@ refusalNumber refusal.LineBuffer = 17
 refusalNumber refusal.VerdictLine = 18
 refusalNumber refusal.TextBuffer = 19
 refusalNumber refusal.TooOften = 20
+refusalNumber refusal.MovesBuffer = 21
 
 -- "A refusal is its number and place."
 abbrev pub refusedAt : Refusal → ℕ → Refused

@@ -74,6 +74,7 @@ pub enum Refusal {
     VerdictLine,
     TextBuffer,
     TooOften,
+    MovesBuffer,
 }
 
 pub struct Refused {
@@ -204,5 +205,6 @@ pub fn refusal_number(r: Refusal) -> u8
         Refusal::VerdictLine => 18,
         Refusal::TextBuffer => 19,
         Refusal::TooOften => 20,
+        Refusal::MovesBuffer => 21,
     }
 }

@@ -43,6 +43,7 @@ refusal-told refusal.LineBuffer p n = refl
 refusal-told refusal.VerdictLine p n = refl
 refusal-told refusal.TextBuffer p n = refl
 refusal-told refusal.TooOften p n = refl
+refusal-told refusal.MovesBuffer p n = refl
 
 violation-told : (k : Kind) (v : Violation) (n : ℕ) → v .kind ≡ k → keptReply (replyFields (violated v) n) ≡ kept.Reply (violated v)
 unfolding keptBy

@@ -25,7 +25,7 @@ refusals =
     refusal.Line ∷ refusal.TooLong ∷ refusal.WordBuffer ∷ refusal.Operation ∷ refusal.Thread ∷ refusal.Object ∷ refusal.LockTaken
     ∷ refusal.LockNotHeld ∷ refusal.TooDeep ∷ refusal.NoOpenBlock ∷ refusal.GuardRange ∷ refusal.GuardRepeated ∷ refusal.Irreducible
     ∷ refusal.OpenBlock ∷ refusal.OutputBuffer ∷ refusal.SetTable ∷ refusal.LineBuffer ∷ refusal.VerdictLine ∷ refusal.TextBuffer
-    ∷ refusal.TooOften ∷ []
+    ∷ refusal.TooOften ∷ refusal.MovesBuffer ∷ []
 
 -- The highest kind of a line of this check.
 abbrev pub lastKind : ℕ

@@ -20,12 +20,12 @@ pub enum Kept {
 }
 
 // The highest kind of a line of this check: 80 hexadecimal plus the number of refusals.
-const LAST_KIND: u8 = 128 + 20;
+const LAST_KIND: u8 = 128 + 21;
 
 // The refusal of a number.
 fn refusal_by(n: u8) -> Refusal
     requires { ⌜ 1 ≤ n ⌝ }
-    requires { ⌜ n ≤ 20 ⌝ }
+    requires { ⌜ n ≤ 21 ⌝ }
     ensures { λ r. ⌜ r ≡ refusalBy n ⌝ }
 {
     let all = [
@@ -49,6 +49,7 @@ fn refusal_by(n: u8) -> Refusal
         Refusal::VerdictLine,
         Refusal::TextBuffer,
         Refusal::TooOften,
+        Refusal::MovesBuffer,
     ];
     let i = (n - 1) as usize;
     all[i]

@@ -62,7 +62,7 @@ set-twice l m k to to′ a =
     (set-comm l m k (to (getD l m 0)) (to′ (getD l k 0)) (λ e. a (sym e)))
 
 -- within a list the default is of no account
-pub same-default : (l : List ℕ) (i a b : ℕ) → i < length l → getD l i a ≡ getD l i b
+pub same-default : {A : Type 0} (l : List A) (i : ℕ) (a b : A) → i < length l → getD l i a ≡ getD l i b
 same-default [] i a b h = absurd (omega arith)
 same-default (x ∷ l) zero a b h = refl
 same-default (x ∷ l) (suc i) a b h = same-default l i a b (omega arith)

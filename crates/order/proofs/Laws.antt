@@ -2,20 +2,31 @@
 use Prim.Native.Nat.{ℕ, _≤_, _<_}
 use mathlib.Core.Path.{_≡_, refl, sym, ap, _∙_}
 use mathlib.Core.Bool.{Bool, true, false, not}
-use mathlib.Core.List.{List, _++_}
-use borrow.Author.Tests.{lt-ltb, le-ltb, not-true, not-false}
-use lib.ListN.{length, drop}
-use Rattle.laws.proofs.Logic.{never}
+use mathlib.Core.List.{List}
+use native.Mathlib.Omega.{arith}
+use borrow.Author.Tests.{lt-ltb, le-ltb, ltb-false, not-true, not-false}
+use lib.Dec.{ltb}
+use lib.ListN.{length, take, drop, length-append}
+use lib.Seq.{take-at}
+use Rattle.laws.proofs.Logic.{never, by-test}
 use Rattle.frame.specs.Refusal.{refusedAt}
+use Rattle.frame.specs.declared.Refusal.{Refusal}
 use Rattle.frame.specs.declared.Refusal.the-variants as refusal
+use Rattle.guards.specs.Guards.{guardsUnder}
+use Rattle.guards.specs.declared.Judgement.{Judgement}
+use Rattle.guards.specs.declared.GuardsReply.{GuardsReply}
+use Rattle.guards.specs.declared.GuardsReply.the-variants as guards
 use Rattle.reply.specs.Reply.{reducible}
+use Rattle.reply.specs.declared.Mark.{Mark}
 use Rattle.reply.specs.declared.Mark.the-variants.{At, Absent}
 use Rattle.reply.specs.declared.Reply.{Reply}
 use Rattle.reply.specs.declared.Reply.the-variants as reply
 use Rattle.reply.specs.declared.Verdict.the-variants as verdict
 use Rattle.pass.specs.Pass.{fullSets, judgement, openAtEnd}
-use Rattle.serial.specs.Order.{serialWords}
-use Rattle.order.specs.Order.{reducibleReply, irreducible, orderReply, orderOut, outAfter}
+use Rattle.serial.specs.Order.{Closed}
+use Rattle.orderlaws.proofs.Order.{closed-open}
+use Rattle.order.specs.Order.{reducibleReply, irreducible, closedReply, replyBy, outAfter, onList, replyUnder}
+use Rattle.order.specs.declared.OrderReply.{OrderReply}
 use Rattle.order.specs.declared.OrderReply.the-variants as order
 
 -- a reply that passes the test
@@ -32,47 +43,69 @@ says-reducible q r b e t f = sym e ∙ passes q (not-false (reducibleReply q) (s
 pub says-irreducible : (q r : Reply) (b : Bool) → q ≡ r → b ≡ not (reducibleReply q) → b ≡ true → reducibleReply r ≡ false
 says-irreducible q r b e t f = ap reducibleReply (sym e) ∙ not-true (reducibleReply q) (sym t ∙ f)
 
--- a refusal leaves the output
-irreducible-out : (r : Reply) (words out : List ℕ) → reducibleReply r ≡ false → outAfter (irreducible r) words out ≡ out
-irreducible-out (reply.Refused x) words out e = refl
-irreducible-out (reply.Judged verdict.Reducible) words out e = never (cc)
-irreducible-out (reply.Judged (verdict.Violated v)) words out e = refl
+-- the reply, test by test
+module _ (short : Refusal) (table ws : List ℕ) (room : ℕ) where
+  pub not-reducible : reducibleReply (judgement table fullSets ws .reply) ≡ false → replyBy short table ws room ≡ irreducible (judgement table fullSets ws .reply)
+  unfolding replyBy
+  not-reducible e = rw e
 
-module _ (guards ws out : List ℕ) where
-  module _ (e : reducibleReply (judgement guards fullSets ws .reply) ≡ false) where
-    pub not-reducible : orderReply guards ws (length out) ≡ irreducible (judgement guards fullSets ws .reply)
-    unfolding orderReply
-    not-reducible = rw e
+  module _ (e : judgement table fullSets ws .reply ≡ reducible) where
+    pub still-open : (b : ℕ) → openAtEnd (judgement table fullSets ws) ≡ At b → replyBy short table ws room ≡ order.Refused (refusedAt refusal.OpenBlock b)
+    unfolding replyBy
+    still-open b o = rw (o, e)
 
-    pub not-reducible-out : orderOut guards ws out ≡ out
-    unfolding orderOut
-    not-reducible-out = rw not-reducible (irreducible-out (judgement guards fullSets ws .reply) (serialWords guards ws) out e)
+    module _ (o : openAtEnd (judgement table fullSets ws) ≡ Absent) where
+      pub no-room : room < length ws → replyBy short table ws room ≡ order.Refused (refusedAt short (length ws))
+      unfolding replyBy
+      no-room h = rw (o, e, lt-ltb room (length ws) h)
 
-  module _ (e : judgement guards fullSets ws .reply ≡ reducible) where
-    module _ (b : ℕ) (o : openAtEnd (judgement guards fullSets ws) ≡ At b) where
-      pub still-open : orderReply guards ws (length out) ≡ order.Refused (refusedAt refusal.OpenBlock b)
-      unfolding orderReply
-      still-open = rw (o, e)
+      pub is-written : length ws ≤ room → replyBy short table ws room ≡ order.Written (length ws)
+      unfolding replyBy
+      is-written h = rw (o, e, le-ltb room (length ws) h)
 
-      pub still-open-out : orderOut guards ws out ≡ out
-      unfolding orderOut
-      still-open-out = rw still-open
+-- A recording that is not refused.
+pub record Accepted (table ws : List ℕ) (room n : ℕ) : Type 0 where
+  pub reducibly : judgement table fullSets ws .reply ≡ reducible
+  pub closed : Closed ws
+  pub fits : length ws ≤ room
+  pub count : n ≡ length ws
 
-    module _ (o : openAtEnd (judgement guards fullSets ws) ≡ Absent) where
-      module _ (short : length out < length ws) where
-        pub no-room : orderReply guards ws (length out) ≡ order.Refused (refusedAt refusal.OutputBuffer (length ws))
-        unfolding orderReply
-        no-room = rw (o, e, lt-ltb (length out) (length ws) short)
+pub accepted : (short : Refusal) (table ws : List ℕ) (room n : ℕ) → replyBy short table ws room ≡ order.Written n → Accepted table ws room n
+unfolding replyBy
+accepted short table ws room n e = by-test (reducibleReply (judgement table fullSets ws .reply))
+    (λ b. let r = passes (judgement table fullSets ws .reply) b in
+    ended r (openAtEnd (judgement table fullSets ws)) refl (ltb room (length ws)) refl (rw b at e))
+    (λ b. absurd (refused (judgement table fullSets ws .reply) b (rw b at e)))
+  where
+    refused : (r : Reply) → reducibleReply r ≡ false → irreducible r ≡ order.Written n → ⊥
+    refused (reply.Refused x) b q = never (cc)
+    refused (reply.Judged verdict.Reducible) b q = never (cc)
+    refused (reply.Judged (verdict.Violated v)) b q = never (cc)
 
-        pub no-room-out : orderOut guards ws out ≡ out
-        unfolding orderOut
-        no-room-out = rw no-room
+    ended : judgement table fullSets ws .reply ≡ reducible → (m : Mark) → openAtEnd (judgement table fullSets ws) ≡ m → (t : Bool) → ltb room (length ws) ≡ t
+        → closedReply short m (length ws) room ≡ order.Written n → Accepted table ws room n
+    ended r (At b) o t l q = never (cc)
+    ended r Absent o true l q = let z : order.Refused (refusedAt short (length ws)) ≡ order.Written n = rw l at q in never (cc)
+    ended r Absent o false l q =
+        let z : order.Written (length ws) ≡ order.Written n = rw l at q in
+        record { reducibly = r; closed = closed-open table ws r o; fits = ltb-false room (length ws) l; count = cc }
 
-      module _ (room : length ws ≤ length out) where
-        pub is-written : orderReply guards ws (length out) ≡ order.Written (length ws)
-        unfolding orderReply
-        is-written = rw (o, e, le-ltb (length out) (length ws) room)
+pub accepted-under : (short : Refusal) (j : Judgement) (list ws : List ℕ) (room n : ℕ) → replyUnder short j list ws room ≡ order.Written n
+    → Accepted (guardsUnder j list .table) ws room n
+unfolding replyUnder
+accepted-under short j list ws room n e = go (guardsUnder j list .reply) e
+  where
+    go : (q : GuardsReply) → onList q (replyBy short (guardsUnder j list .table) ws room) ≡ order.Written n → Accepted (guardsUnder j list .table) ws room n
+    go (guards.Lines m) t = accepted short (guardsUnder j list .table) ws room n t
+    go (guards.Refused x) t = never (cc)
 
-        pub is-written-out : orderOut guards ws out ≡ serialWords guards ws ++ drop (length ws) out
-        unfolding orderOut
-        is-written-out = rw is-written
+-- What is written, an element for each frame, stands first in the buffer.
+pub first-written : {A : Type 0} (short : Refusal) (j : Judgement) (list ws : List ℕ) (xs out : List A) {q : OrderReply} {n : ℕ} {left : List A}
+    → (Accepted (guardsUnder j list .table) ws (length out) n → length xs ≡ length ws) → q ≡ replyUnder short j list ws (length out)
+    → left ≡ outAfter (replyUnder short j list ws (length out)) xs out → q ≡ order.Written n
+    → (n ≤ length left) × (length ws ≤ length (take n left)) × (take n left ≡ xs)
+first-written short j list ws xs out {n = n} f e l w =
+    let x = accepted-under short j list ws (length out) n (sym e ∙ w) in
+    let o = rw (sym e ∙ w) at l in
+    let t = take-at xs (drop n out) n (f x ∙ sym (x .count)) in
+    rw o (rw (length-append xs (drop n out)) (omega (arith, f x, x .count)), rw t (omega (arith, f x)), t)

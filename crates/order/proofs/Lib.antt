@@ -1,2 +1,2 @@
--- Laws of the calls for the serial order.
+-- Laws of the calls for the serial order, and of a reply that something is written.
 pub mod Laws

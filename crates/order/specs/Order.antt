@@ -6,6 +6,7 @@ use mathlib.Core.List.{List, _++_}
 use lib.Dec.{ltb}
 use lib.ListN.{length, drop}
 use Rattle.frame.specs.Refusal.{refusedAt}
+use Rattle.frame.specs.declared.Refusal.{Refusal}
 use Rattle.frame.specs.declared.Refusal.the-variants as refusal
 use Rattle.guards.specs.Guards.{guardsUnder}
 use Rattle.guards.specs.declared.Judgement.{Judgement}
@@ -32,23 +33,27 @@ irreducible (reply.Refused x) = order.Refused x
 irreducible (reply.Judged verdict.Reducible) = order.Written 0
 irreducible (reply.Judged (verdict.Violated v)) = order.Refused (refusedAt refusal.Irreducible (v .frame))
 
--- "14: a block still open at the end; smallest place of an open outermost begin", then "15: output shorter than the recording; its length".
--- n is the recording's length, room the output's. "the reply is that length"
-abbrev pub closedReply : Mark → ℕ → ℕ → OrderReply
-closedReply (At b) n room = order.Refused (refusedAt refusal.OpenBlock b)
-closedReply Absent n room = cond (ltb room n) (order.Refused (refusedAt refusal.OutputBuffer n)) (order.Written n)
+-- "14: a block still open at the end; smallest place of an open outermost begin", then `short`, the refusal of a lent buffer that is shorter
+-- than the recording, with its length. n is the recording's length, room the buffer's. "the reply is that length"
+abbrev pub closedReply : Refusal → Mark → ℕ → ℕ → OrderReply
+closedReply short (At b) n room = order.Refused (refusedAt refusal.OpenBlock b)
+closedReply short Absent n room = cond (ltb room n) (order.Refused (refusedAt short n)) (order.Written n)
 
--- The reply under a table of guards: the recording's refusals, 13, 14, 15, or the length.
-unfoldable pub orderReply : List ℕ → List ℕ → ℕ → OrderReply
-orderReply guards ws room =
-    cond (reducibleReply (judgement guards fullSets ws .reply)) (closedReply (openAtEnd (judgement guards fullSets ws)) (length ws) room)
+-- The reply under a table of guards: the recording's refusals, 13, 14, `short`, or the length.
+unfoldable pub replyBy : Refusal → List ℕ → List ℕ → ℕ → OrderReply
+replyBy short guards ws room =
+    cond (reducibleReply (judgement guards fullSets ws .reply)) (closedReply short (openAtEnd (judgement guards fullSets ws)) (length ws) room)
     (irreducible (judgement guards fullSets ws .reply))
 
+-- "15: output shorter than the recording; its length"
+abbrev pub orderReply : List ℕ → List ℕ → ℕ → OrderReply
+orderReply guards ws room = replyBy refusal.OutputBuffer guards ws room
+
 -- "Each unit's frames are written from the place where the last unit stopped; words beyond the recording's length stay unchanged"; a refusal
--- changes no lent buffer.
-abbrev pub outAfter : OrderReply → List ℕ → List ℕ → List ℕ
-outAfter (order.Refused x) words out = out
-outAfter (order.Written n) words out = words ++ drop n out
+-- changes no lent buffer. Over any element type: what is written has an element for each frame.
+abbrev pub outAfter : {A : Type 0} → OrderReply → List A → List A → List A
+outAfter (order.Refused x) xs out = out
+outAfter (order.Written n) xs out = xs ++ drop n out
 
 unfoldable pub orderOut : List ℕ → List ℕ → List ℕ → List ℕ
 orderOut guards ws out = outAfter (orderReply guards ws (length out)) (serialWords guards ws) out
@@ -63,8 +68,11 @@ onList (guards.Lines n) r = r
 onList (guards.Refused x) r = order.Refused x
 
 -- "The order can be asked for with declared or inferred guards": the reply and the output under a judgement.
-unfoldable pub orderUnder : Judgement → List ℕ → List ℕ → ℕ → OrderReply
-orderUnder j list ws room = onList (guardsUnder j list .reply) (orderReply (guardsUnder j list .table) ws room)
+unfoldable pub replyUnder : Refusal → Judgement → List ℕ → List ℕ → ℕ → OrderReply
+replyUnder short j list ws room = onList (guardsUnder j list .reply) (replyBy short (guardsUnder j list .table) ws room)
+
+abbrev pub orderUnder : Judgement → List ℕ → List ℕ → ℕ → OrderReply
+orderUnder j list ws room = replyUnder refusal.OutputBuffer j list ws room
 
 unfoldable pub outUnder : Judgement → List ℕ → List ℕ → List ℕ → List ℕ
 outUnder j list ws out = outAfter (orderUnder j list ws (length out)) (serialWords (guardsUnder j list .table) ws) out

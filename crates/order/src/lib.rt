@@ -12,7 +12,7 @@ use soundness::CheckReply;
 ghost use mathlib.Core.Path.{_≡_};
 ghost use mathlib.Core.Bool.{not};
 ghost use lib.ListN.{length};
-ghost use Rattle.order.specs.Order.{reducibleReply, irreducible, listRefused, orderReply, orderOut, orderUnder, outUnder};
+ghost use Rattle.order.specs.Order.{reducibleReply, irreducible, listRefused, replyBy, orderReply, orderOut, orderUnder, outUnder};
 
 pub enum OrderReply {
     Written(u32),
@@ -47,10 +47,10 @@ fn is_irreducible(r: Reply) -> bool
     }
 }
 
-// The serial order under a table of guards: the pass, which judges, and the walk, which writes.
-fn under_guards(words: &[u32], guards: &[u8; VARIABLES], out: &mut [u32]) -> OrderReply
-    ensures reply { λ r. ⌜ r ≡ orderReply (now (guards .entry)) (now (words .entry)) (length (now (out .entry))) ⌝ }
-    ensures contents { λ r. ⌜ now (out .exit) ≡ orderOut (now (guards .entry)) (now (words .entry)) (now (out .entry)) ⌝ }
+// What a request on a recording under a table of guards is answered, with what it writes left out: a lent buffer has room elements, and is
+// refused by short where these are fewer than the frames.
+pub fn check(words: &[u32], guards: &[u8; VARIABLES], room: usize, short: Refusal) -> OrderReply
+    ensures { λ r. ⌜ r ≡ replyBy short (now (guards .entry)) (now (words .entry)) room ⌝ }
 {
     let mut sets = [ALL_LOCKS; VARIABLES];
     let p = pass::judge_recording(words, guards, &mut sets);
@@ -66,21 +66,33 @@ fn under_guards(words: &[u32], guards: &[u8; VARIABLES], out: &mut [u32]) -> Ord
         });
     }
     let n = words.len() as u32;
-    if out.len() < words.len() {
+    if room < words.len() {
         return OrderReply::Refused(Refused {
-            reason: Refusal::OutputBuffer,
+            reason: short,
             place: n,
         });
     }
+    OrderReply::Written(n)
+}
+
+// The serial order under a table of guards: the checks, and the walk, which writes.
+fn under_guards(words: &[u32], guards: &[u8; VARIABLES], out: &mut [u32]) -> OrderReply
+    ensures reply { λ r. ⌜ r ≡ orderReply (now (guards .entry)) (now (words .entry)) (length (now (out .entry))) ⌝ }
+    ensures contents { λ r. ⌜ now (out .exit) ≡ orderOut (now (guards .entry)) (now (words .entry)) (now (out .entry)) ⌝ }
+{
+    let q = check(words, guards, out.len(), Refusal::OutputBuffer);
+    let OrderReply::Written(_) = q else {
+        return q;
+    };
     let w = walk::write_order(words, guards, out);
     match w {
         CheckReply::Refused(x) => OrderReply::Refused(x),
-        CheckReply::Sound => OrderReply::Written(n),
+        CheckReply::Sound => q,
     }
 }
 
 // The refusal of a guard list.
-fn list_refused(q: GuardsReply) -> OrderReply
+pub fn list_refused(q: GuardsReply) -> OrderReply
     ensures { λ r. ⌜ r ≡ listRefused q ⌝ }
 {
     match q {

@@ -4,20 +4,17 @@
 use Prim.Native.Nat.{ℕ, zero, suc, _+_, _≤_, _<_}
 use mathlib.Core.Path.{_≡_, refl, sym, ap, _∙_, subst}
 use mathlib.Core.Bool.{Bool, true, false, cond}
-use mathlib.Core.List.{List, [], _∷_, _++_, map}
+use mathlib.Core.List.{List, [], _∷_, _++_, map, map-append}
 use native.Mathlib.Omega.{arith}
 use borrow.Author.Tests.{eqb-true, ltb-true, ltb-false}
 use lib.Dec.{eqb, ltb}
-use lib.ListN.{length, getD, drop, List·getD-eq-default}
+use lib.ListN.{length, getD, length-map, List·getD-eq-default}
 use Rattle.pass.specs.Pass.{Ended, startJudging, fullSets, judgeFrom, judgement, earlier, openBegin, firstOpenFrom, firstOpen, openAtEnd}
 use Rattle.frame.specs.Limits.{threadCount}
 use Rattle.laws.proofs.Logic.{never, either, from-here, by-test}
-use Rattle.frame.specs.Frame.{decodeWord, encodeFrame}
-use Rattle.frame.specs.declared.Thread.{Thread}
 use Rattle.frame.specs.declared.Frame.{Frame}
 use Rattle.frame.specs.declared.Action.{Action}
 use Rattle.frame.specs.declared.Decoded.{Decoded}
-use Rattle.frame.specs.declared.Decoded.the-variants as decoded
 use Rattle.reply.specs.declared.Mark.{Mark}
 use Rattle.reply.specs.declared.Mark.the-variants.{At, Absent}
 use Rattle.reply.specs.declared.Verdict.the-variants as verdict
@@ -32,17 +29,17 @@ use Rattle.rules.proofs.Choice.{chosen, operation-chosen, inferred-is-some-choi
 use Rattle.exchange.specs.Exchange.{Exchanges, independentWords, frameOf, framesOf}
 use Rattle.exchange.specs.Independent.{independent}
 use Rattle.exchange.proofs.Exchange.{exchanges-length}
-use Rattle.exchange.proofs.Frames.{AllDecode, frame-word, sound-all-decode, frames-words, apart-words}
-use Rattle.serial.specs.Order.{commits, unitAt, unitsFrom, serialWords, Closed, contiguousAt, Contiguous}
-use Rattle.commit.specs.Commit.{Tables, visited, unitStart}
-use Rattle.serial.specs.Walk.{Own, mine, other, ownFrame, onOwn, unitFrom, unitOf, unitIn, onFrame, walkFrom, walkWords}
+use Rattle.exchange.proofs.Frames.{AllDecode, sound-all-decode, frames-words, apart-words}
+use Rattle.serial.specs.Order.{commits, unitAt, unitsFrom, inSerialOrder, serialWords, Closed, contiguousAt, Contiguous}
+use Rattle.serial.specs.Walk.{walkOf}
 use Rattle.reduction.proofs.Run as run
 use Rattle.reduction.proofs.Run.{threadOf, Run, begin, Good, depthAt, put}
-use Rattle.reduction.proofs.Serial.{Serial, serial-exchanges, serial-serial}
+use Rattle.reduction.proofs.Serial.{Serial, serialOrder, serial-exchanges, serial-permutes, serial-serial}
+use Rattle.reduction.proofs.Commits.{keys-length, commits-own}
 use Rattle.reduction.proofs.Units.{walk, serial-walk}
 use Rattle.reduction.proofs.Alike.{Alike, alike-same, alike-inferred, serialOrder-alike}
 use Rattle.orderlaws.proofs.View.{Declared}
-use Rattle.orderlaws.proofs.Recording.{Pass, pass-made, start-long, start-view, pass-good, order-frames, pass-depth, pass-end, pass-end-long}
+use Rattle.orderlaws.proofs.Recording.{Pass, pass-made, start-long, start-view, pass-good, commits-keys, order-by, pass-depth, pass-end, pass-end-long}
 use Rattle.orderlaws.proofs.Walk.{pass-walk}
 
 -- an operation under the chosen locks does the same to locks, depths and commits, and is under no inferred guard
@@ -106,6 +103,29 @@ reducible-decode guards ws r = sound-all-decode ws (judgement-sound guards fullS
 order-decode : (guards ws : List ℕ) → Reducible guards ws → AllDecode (serialWords guards ws)
 order-decode guards ws r = from-decode (length ws) 0 (commits guards ws) ws (reducible-decode guards ws r)
 
+-- The serial order of what a function makes of the elements: of a commit, of units.
+map-at : {A B : Type 0} (g : A → B) (c : ℕ) (ks : List ℕ) (xs : List A) → map g (unitAt c ks xs) ≡ unitAt c ks (map g xs)
+unfolding unitAt
+map-at g c [] xs = refl
+map-at g c (k ∷ ks) [] = refl
+map-at {A} {B} g c (k ∷ ks) (x ∷ xs) = go (eqb k c) (map-at g c ks xs)
+  where
+    go : (b : Bool) → map g (unitAt c ks xs) ≡ unitAt c ks (map g xs)
+        → map g (cond b (x ∷ unitAt c ks xs) (unitAt c ks xs)) ≡ cond b (g x ∷ unitAt c ks (map g xs)) (unitAt c ks (map g xs))
+    go true e = ap (λ (l : List B). g x ∷ l) e
+    go false e = e
+
+pub map-units : {A B : Type 0} (g : A → B) (n c : ℕ) (ks : List ℕ) (xs : List A) → map g (unitsFrom n c ks xs) ≡ unitsFrom n c ks (map g xs)
+unfolding unitsFrom
+map-units g zero c ks xs = refl
+map-units g (suc n) c ks xs =
+    map-append g (unitAt c ks xs) (unitsFrom n (c + 1) ks xs) ∙ rw (map-at g c ks xs, map-units g n (c + 1) ks xs)
+
+-- so the frames of the serial order are the serial order of the frames
+order-frames : (guards ws : List ℕ) → Reducible guards ws → framesOf (serialWords guards ws) ≡ serialOrder guards (framesOf ws)
+order-frames guards ws r =
+    map-units frameOf (length ws) 0 (commits guards ws) ws ∙ order-by guards (framesOf ws) (reducible-pass guards ws r)
+
 -- Exchanges lead to the serial order of a reducible, closed recording: of its frames
 frames-exchanged : (guards ws : List ℕ) → Reducible guards ws → Closed ws
     → Exchanges independent (framesOf ws) (framesOf (serialWords guards ws))
@@ -115,7 +135,7 @@ frames-exchanged guards ws r c =
     subst (λ (x : Run). Good (choose guards (k .0)) x 0 (framesOf ws)) start-view
     (pass-good (choose guards (k .0)) (choice-declared guards (k .0) (k .1)) (reducible-pass (choose guards (k .0)) ws (k .2))) in
     subst (λ (l : List Frame). Exchanges independent (framesOf ws) l)
-    (sym (order-frames guards (reducible-pass guards ws r) ∙ serialOrder-alike guards (choose guards (k .0)) (choice-alike guards (k .0) (k .1)) (framesOf ws)))
+    (sym (order-frames guards ws r ∙ serialOrder-alike guards (choose guards (k .0)) (choice-alike guards (k .0) (k .1)) (framesOf ws)))
     (serial-exchanges (choose guards (k .0)) (framesOf ws) good (closed-frames guards ws r c))
 
 -- and of its words
@@ -147,64 +167,36 @@ serial-contiguous d e (w ∷ ws) a h s = subst (λ (x : Decoded). contiguousAt x
 pub order-contiguous : (guards ws : List ℕ) → Reducible guards ws → Closed ws → Contiguous (λ t. 0) (serialWords guards ws)
 order-contiguous guards ws r c =
     serial-contiguous (λ t. 0) (λ t. 0) (serialWords guards ws) (order-decode guards ws r) (λ u. refl)
-    (subst (λ (l : List Frame). Serial (λ t. 0) l) (sym (order-frames guards (reducible-pass guards ws r)))
+    (subst (λ (l : List Frame). Serial (λ t. 0) l) (sym (order-frames guards ws r))
     (serial-serial guards (framesOf ws) (closed-frames guards ws r c)))
 
--- words that all decode: from a place on, of a unit, of a walk
-drop-decode : (b : ℕ) (l : List ℕ) → AllDecode l → AllDecode (drop b l)
-drop-decode zero l a = a
-drop-decode (suc b) [] a = tt
-drop-decode (suc b) (w ∷ l) a = drop-decode b l (a .1)
+-- The code's walk of a reducible, closed recording gives its serial order, over any element type.
+pub walk-is-order : {A : Type 0} (guards ws : List ℕ) (xs : List A) → length xs ≡ length ws → Reducible guards ws → Closed ws
+    → walkOf guards ws xs ≡ inSerialOrder guards ws xs
+walk-is-order {A} guards ws xs e r c =
+    let p = reducible-pass guards ws r in
+    let none : ℕ → List A = λ t. [] in
+    pass-walk guards xs p
+    ∙ (ap (λ (x : Run). walk guards x (λ t. []) none 0 (framesOf ws) xs) start-view
+    ∙ (serial-walk guards (framesOf ws) xs (e ∙ sym (length-map ws frameOf)) (closed-frames guards ws r c) ∙ sym (order-by guards xs p)))
 
-unit-decode : (t : Thread) (d : ℕ) (ws : List ℕ) → AllDecode ws → AllDecode (unitFrom t d ws)
-unfolding unitFrom
-unit-decode t d [] a = tt
-unit-decode t d (w ∷ ws) a = go (ownFrame (decodeWord w) t d) (λ e. unit-decode t e ws (a .1))
-  where
-    go : (o : Own) → ((e : ℕ) → AllDecode (unitFrom t e ws)) → AllDecode (onOwn o w d (λ e. unitFrom t e ws))
-    go other ih = ih d
-    go (mine e) ih = (a .0, either AllDecode (eqb e 0) {x = []} {y = unitFrom t e ws} tt (ih e))
+-- It has the elements of the recording, each once: exchanges of any neighbours lead to it.
+pub order-permutes : {A : Type 0} (guards ws : List ℕ) (xs : List A) → length xs ≡ length ws → Reducible guards ws → Closed ws
+    → Exchanges (λ x y. true) xs (inSerialOrder guards ws xs)
+order-permutes {A} guards ws xs e r c =
+    subst (λ (l : List A). Exchanges (λ x y. true) xs l) (sym (order-by guards xs (reducible-pass guards ws r)))
+    (serial-permutes guards (framesOf ws) xs (e ∙ sym (length-map ws frameOf)) (closed-frames guards ws r c))
 
-in-decode : (m : Mark) (all : List ℕ) (t : Thread) → AllDecode all → AllDecode (unitIn m all t)
-unfolding unitOf
-in-decode (At b) all t a = unit-decode t 0 (drop b all) (drop-decode b all a)
-in-decode Absent all t a = tt
+-- A recording has a commit for each frame; it is one of its places, and that of the frame there.
+pub commits-length : (guards ws : List ℕ) → Reducible guards ws → length (commits guards ws) ≡ length ws
+commits-length guards ws r =
+    ap length (commits-keys guards (reducible-pass guards ws r)) ∙ (keys-length guards begin 0 (framesOf ws) ∙ length-map ws frameOf)
 
-frame-decode : (x : Decoded) (l : Frame → List ℕ) → ((f : Frame) → AllDecode (l f)) → AllDecode (onFrame x l)
-frame-decode (decoded.Frame f) l a = a f
-frame-decode (decoded.Bad r) l a = tt
-
-walk-decode : (guards all : List ℕ) (i : ℕ) (x : Tables) (ws : List ℕ) → AllDecode all → AllDecode (walkFrom guards all i x ws)
-unfolding walkFrom
-walk-decode guards all i x [] a = tt
-walk-decode guards all i x (w ∷ ws) a =
-    frame-decode (decodeWord w) _
-    (λ f. both-decode (unitIn (unitStart guards i f x) all (f .thread)) (walkFrom guards all (i + 1) (visited guards i f x) ws)
-    (in-decode (unitStart guards i f x) all (f .thread) a) (walk-decode guards all (i + 1) (visited guards i f x) ws a))
-
--- words that all decode are those of their frames
-words-back : (l : List ℕ) → AllDecode l → map encodeFrame (framesOf l) ≡ l
-words-back [] a = refl
-words-back (w ∷ l) a =
-    ap (λ (x : ℕ). x ∷ map encodeFrame (framesOf l)) (frame-word w (a .0)) ∙ ap (λ (x : List ℕ). w ∷ x) (words-back l (a .1))
-
--- The code's walk of a reducible, closed recording gives its serial order.
-pub walk-is-order : (guards ws : List ℕ) → Reducible guards ws → Closed ws → walkWords guards ws ≡ serialWords guards ws
-walk-is-order guards ws r c =
-    sym (words-back (walkWords guards ws) (walk-decode guards ws 0 _ ws all))
-    ∙ (ap (λ (l : List Frame). map encodeFrame l) same ∙ words-back (serialWords guards ws) (order-decode guards ws r))
-  where
-    p : Pass guards 0 start (startJudging fullSets) ws
-    p = reducible-pass guards ws r
-
-    all : AllDecode ws
-    all = reducible-decode guards ws r
-
-    same : framesOf (walkWords guards ws) ≡ framesOf (serialWords guards ws)
-    same =
-        pass-walk guards p
-        ∙ (ap (λ (x : Run). walk guards x (λ t. []) 0 (framesOf ws)) start-view
-        ∙ (serial-walk guards (framesOf ws) (closed-frames guards ws r c) ∙ sym (order-frames guards p)))
+pub commit-place : (guards ws : List ℕ) → Reducible guards ws → Closed ws → (p : ℕ) → p < length ws
+    → (getD (commits guards ws) p 0 < length ws) × (getD (commits guards ws) (getD (commits guards ws) p 0) 0 ≡ getD (commits guards ws) p 0)
+commit-place guards ws r c p h =
+    rw (commits-keys guards (reducible-pass guards ws r), ← length-map ws frameOf)
+    (commits-own guards (framesOf ws) (closed-frames guards ws r c) p (omega (arith, length-map ws frameOf)))
 
 -- the earlier of two places is absent where both are, and an open begin where no block is open
 earlier-absent : (x y : Mark) → earlier x y ≡ Absent → (x ≡ Absent) × (y ≡ Absent)

@@ -3,7 +3,7 @@
 use Prim.Native.Nat.{ℕ, zero, suc, pred, _+_, _-_}
 use mathlib.Core.Path.{_≡_, refl, sym, ap, _∙_, subst}
 use mathlib.Core.Bool.{Bool, true, false, cond, not, _&&_, _||_}
-use mathlib.Core.List.{List, [], _∷_, map-append}
+use mathlib.Core.List.{List, [], _∷_}
 use native.Mathlib.Omega.{arith}
 use native.Mathlib.Numerals.{add-one}
 use lib.Dec.{eqb}
@@ -11,7 +11,6 @@ use lib.ListN.{length, getD, length-map}
 use Rattle.turn.specs.Turn.{judgeFrame}
 use Rattle.pass.specs.Pass.{Ended, judgeFrom, startJudging, fullSets}
 use Rattle.frame.specs.Limits.{threadCount, lockCount}
-use Rattle.laws.proofs.Logic.{never}
 use Rattle.laws.proofs.Lists.{getD-filled}
 use Rattle.frame.proofs.Laws.{decoded-in-range}
 use Rattle.frame.specs.Frame.{decodeWord}
@@ -30,12 +29,12 @@ use Rattle.instrumented.specs.Rules.{outside, before, after, Judging, judged, p
 use Rattle.operation.specs.Operation.{operationOf}
 use Rattle.rules.proofs.Choice.{goes, goes-on}
 use Rattle.exchange.specs.Exchange.{frameOf, framesOf}
-use Rattle.serial.specs.Order.{Point, commitFrom, commitIn, commitsFrom, unitAt, unitsFrom, serialWords, settled}
+use Rattle.serial.specs.Order.{Point, commitFrom, commitIn, commitsFrom, commits, unitAt, unitsFrom, inSerialOrder, settled}
 use Rattle.serial.specs.Walk.{mine, other, unitFrom, onOwn}
 use Rattle.reduction.proofs.Run as run
-use Rattle.reduction.proofs.Run.{threadOf, Run, begin, sound, Keyed, Good, commitPlace, keyOf, keyed, depthAt}
-use Rattle.reduction.proofs.Sort.{frames, bucket, buckets}
-use Rattle.reduction.proofs.Serial.{serialOrder, frames-append, frames-keyed, depth-next}
+use Rattle.reduction.proofs.Run.{threadOf, Run, begin, sound, Keyed, onto, Good, commitPlace, keyOf, keyedBy, keyed, depthAt}
+use Rattle.reduction.proofs.Sort.{frames, keys, bucket, buckets}
+use Rattle.reduction.proofs.Serial.{orderBy, frames-append, depth-next}
 use Rattle.reduction.proofs.Units as units
 use Rattle.orderlaws.proofs.View.{viewOf, Long, Declared, OneFrame, run-equal, one-frame}
 
@@ -99,31 +98,31 @@ commit-in d b c x = go (eqb d 0) (eqb c 0) refl
 pub frames-first : (w : ℕ) (f : Frame) (ws : List ℕ) → decodeWord w ≡ decoded.Frame f → framesOf (w ∷ ws) ≡ f ∷ framesOf ws
 frames-first w f ws d = rw d
 
-abbrev keys : List (Keyed Frame) → List ℕ
-keys [] = []
-keys (x ∷ l) = x .key ∷ keys l
-
--- the words of a commit
-units-at : (c : ℕ) (k : List (Keyed Frame)) (xs : List ℕ) → framesOf xs ≡ frames k → framesOf (unitAt c (keys k) xs) ≡ frames (bucket c k)
+-- the elements of a commit
+units-at : {A : Type 0} (guards : List ℕ) (c : ℕ) (s : Run) (n : ℕ) (l : List Frame) (xs : List A)
+    → unitAt c (keys (keyed guards s n l)) xs ≡ frames (bucket c (keyedBy guards s n l xs))
 unfolding unitAt
-units-at c [] xs e = refl
-units-at c (x ∷ k) [] e = never (cc)
-units-at c (x ∷ k) (w ∷ xs) e = go (eqb (x .key) c) (units-at c k xs (cc))
+units-at guards c s n [] xs = refl
+units-at guards c s n (f ∷ l) [] = refl
+units-at {A} guards c s n (f ∷ l) (x ∷ xs) = go (eqb (keyOf guards s n f l) c) (units-at guards c (onto guards s n f) (suc n) l xs)
   where
-    h : frameOf w ≡ x .frame
-    h = cc
+    rest : List (Keyed A)
+    rest = bucket c (keyedBy guards (onto guards s n f) (suc n) l xs)
 
-    go : (b : Bool) → framesOf (unitAt c (keys k) xs) ≡ frames (bucket c k)
-        → framesOf (cond b (w ∷ unitAt c (keys k) xs) (unitAt c (keys k) xs)) ≡ frames (cond b (x ∷ bucket c k) (bucket c k))
-    go true ih = ap (λ (y : Frame). y ∷ framesOf (unitAt c (keys k) xs)) h ∙ ap (λ (y : List Frame). x .frame ∷ y) ih
+    more : List A
+    more = unitAt c (keys (keyed guards (onto guards s n f) (suc n) l)) xs
+
+    go : (b : Bool) → more ≡ frames rest → cond b (x ∷ more) more ≡ frames (cond b (record { key = keyOf guards s n f l; frame = x } ∷ rest) rest)
+    go true ih = ap (λ (y : List A). x ∷ y) ih
     go false ih = ih
 
-units-from : (m c : ℕ) (k : List (Keyed Frame)) (xs : List ℕ) → framesOf xs ≡ frames k → framesOf (unitsFrom m c (keys k) xs) ≡ frames (buckets m c k)
+units-from : {A : Type 0} (guards : List ℕ) (m c : ℕ) (s : Run) (n : ℕ) (l : List Frame) (xs : List A)
+    → unitsFrom m c (keys (keyed guards s n l)) xs ≡ frames (buckets m c (keyedBy guards s n l xs))
 unfolding unitsFrom
-units-from zero c k xs e = refl
-units-from (suc m) c k xs e =
-    rw (add-one c, map-append frameOf (unitAt c (keys k) xs) (unitsFrom m (suc c) (keys k) xs), frames-append (bucket c k) (buckets m (suc c) k))
-    (rw (units-at c k xs e, units-from m (suc c) k xs e))
+units-from guards zero c s n l xs = refl
+units-from guards (suc m) c s n l xs =
+    rw (add-one c, frames-append (bucket c (keyedBy guards s n l xs)) (buckets m (suc c) (keyedBy guards s n l xs)))
+    (rw (units-at guards c s n l xs, units-from guards m (suc c) s n l xs))
 
 module _ (guards : List ℕ) where
   -- The run of a reducible recording does not go wrong, where no guard is inferred.
@@ -145,7 +144,7 @@ module _ (guards : List ℕ) where
       ∙ ap (λ (x : Run). cond (eqb (threadOf f) (t .0) && run.settled x (t .0)) i (commitPlace guards (t .0) x (suc i) (framesOf ws))) (o .run)))
 
   -- The commits are the keys.
-  pub pass-keys : {i : ℕ} {s : State} {j : Judging} {ws : List ℕ} → Pass guards i s j ws
+  pass-keys : {i : ℕ} {s : State} {j : Judging} {ws : List ℕ} → Pass guards i s j ws
       → commitsFrom guards i (point s j) ws ≡ keys (keyed guards (viewOf s j) i (framesOf ws))
   unfolding commitsFrom
   pass-keys end = refl
@@ -163,13 +162,16 @@ module _ (guards : List ℕ) where
           ∙ ap (λ (x : ℕ). cond (eqb (viewOf s j .committed (threadOf f)) 0) x (pred (viewOf s j .committed (threadOf f))))
           (place (f .thread) (on d g a o rest) ∙ ap (λ (l : List Frame). commitPlace guards (threadOf f) (viewOf s j) i l) (frames-first w f ws d))
 
-  -- The serial order of the words is that of the frames.
-  pub order-frames : {ws : List ℕ} → Pass guards 0 start (startJudging fullSets) ws → framesOf (serialWords guards ws) ≡ serialOrder guards (framesOf ws)
-  order-frames {ws} p =
-      ap (λ (x : List ℕ). framesOf (unitsFrom (length ws) 0 x ws))
-      (pass-keys p ∙ ap (λ (x : Run). keys (keyed guards x 0 (framesOf ws))) start-view)
-      ∙ (units-from (length ws) 0 (keyed guards begin 0 (framesOf ws)) ws (sym (frames-keyed guards begin 0 (framesOf ws)))
-      ∙ ap (λ (m : ℕ). frames (buckets m 0 (keyed guards begin 0 (framesOf ws)))) (sym (length-map ws frameOf)))
+  pub commits-keys : {ws : List ℕ} → Pass guards 0 start (startJudging fullSets) ws → commits guards ws ≡ keys (keyed guards begin 0 (framesOf ws))
+  commits-keys {ws} p = pass-keys p ∙ ap (λ (x : Run). keys (keyed guards x 0 (framesOf ws))) start-view
+
+  -- The serial order by the words' commits is that by the frames', over any element type.
+  pub order-by : {A : Type 0} {ws : List ℕ} (xs : List A) → Pass guards 0 start (startJudging fullSets) ws
+      → inSerialOrder guards ws xs ≡ orderBy guards (framesOf ws) xs
+  order-by {A} {ws} xs p =
+      ap (λ (x : List ℕ). unitsFrom (length ws) 0 x xs) (commits-keys p)
+      ∙ (units-from guards (length ws) 0 begin 0 (framesOf ws) xs
+      ∙ ap (λ (m : ℕ). frames (buckets m 0 (keyedBy guards begin 0 (framesOf ws) xs))) (sym (length-map ws frameOf)))
 
   -- a thread's depth after a frame
   pub depth-now : (t : ℕ) {i : ℕ} {s n : State} {j k : Judging} (f : Frame) → OneFrame guards i f s j n k
@@ -185,15 +187,19 @@ module _ (guards : List ℕ) where
       rw (d, g, add-one i) (ap (λ (x : ℕ). depthAt t x (framesOf ws)) (sym (depth-now t f o)) ∙ pass-depth t rest)
 
   -- The unit of a thread, from a place at which its frames are listed.
-  pub unit-frames : (t : Thread) {i : ℕ} {s : State} {j : Judging} {ws : List ℕ} → Pass guards i s j ws
-      → framesOf (unitFrom t (getD (s .depths) (t .0) 0) ws) ≡ units.unitFrom (t .0) (getD (s .depths) (t .0) 0) (framesOf ws)
+  pub unit-frames : {A : Type 0} (t : Thread) {i : ℕ} {s : State} {j : Judging} {ws : List ℕ} (xs : List A) → Pass guards i s j ws
+      → unitFrom t (getD (s .depths) (t .0) 0) ws xs ≡ units.unitFrom (t .0) (getD (s .depths) (t .0) 0) (framesOf ws) xs
   unfolding unitFrom
-  unit-frames t end = refl
-  unit-frames t (on {s = s} {j = j} {w = w} {ws = ws} {f = f} {n = n} d g a o rest) =
-      rw d (go (eqb (threadOf f) (t .0)) refl (unit-frames t rest))
+  unit-frames t xs end = refl
+  unit-frames t [] (on d g a o rest) = refl
+  unit-frames {A} t (x ∷ xs) (on {s = s} {j = j} {w = w} {ws = ws} {f = f} {n = n} d g a o rest) =
+      rw d (go (eqb (threadOf f) (t .0)) refl (unit-frames t xs rest))
     where
       m : ℕ
       m = getD (s .depths) (t .0) 0
+
+      same : ℕ → Type 0
+      same d = unitFrom t d ws xs ≡ units.unitFrom (t .0) d (framesOf ws) xs
 
       after-own : eqb (threadOf f) (t .0) ≡ true → getD (n .depths) (t .0) 0 ≡ nest m (f .action)
       after-own e = depth-now (t .0) f o ∙ rw e
@@ -201,20 +207,12 @@ module _ (guards : List ℕ) where
       after-other : eqb (threadOf f) (t .0) ≡ false → getD (n .depths) (t .0) 0 ≡ m
       after-other e = depth-now (t .0) f o ∙ rw e
 
-      more : (b : Bool) (x : ℕ) → framesOf (unitFrom t x ws) ≡ units.unitFrom (t .0) x (framesOf ws)
-          → framesOf (w ∷ cond b [] (unitFrom t x ws)) ≡ f ∷ cond b [] (units.unitFrom (t .0) x (framesOf ws))
-      more true x ih = frames-first w f [] d
-      more false x ih = frames-first w f (unitFrom t x ws) d ∙ ap (λ (l : List Frame). f ∷ l) ih
-
-      go : (b : Bool) → eqb (threadOf f) (t .0) ≡ b
-          → framesOf (unitFrom t (getD (n .depths) (t .0) 0) ws) ≡ units.unitFrom (t .0) (getD (n .depths) (t .0) 0) (framesOf ws)
-          → framesOf (onOwn (cond b (mine (nest m (f .action))) other) w m (λ e. unitFrom t e ws))
-          ≡ cond b (f ∷ cond (eqb (nest m (f .action)) 0) [] (units.unitFrom (t .0) (nest m (f .action)) (framesOf ws)))
-          (units.unitFrom (t .0) m (framesOf ws))
-      go true e ih =
-          more (eqb (nest m (f .action)) 0) (nest m (f .action))
-          (subst (λ (x : ℕ). framesOf (unitFrom t x ws) ≡ units.unitFrom (t .0) x (framesOf ws)) (after-own e) ih)
-      go false e ih = subst (λ (x : ℕ). framesOf (unitFrom t x ws) ≡ units.unitFrom (t .0) x (framesOf ws)) (after-other e) ih
+      go : (b : Bool) → eqb (threadOf f) (t .0) ≡ b → same (getD (n .depths) (t .0) 0)
+          → onOwn (cond b (mine (nest m (f .action))) other) x m (λ e. unitFrom t e ws xs)
+          ≡ cond b (x ∷ cond (eqb (nest m (f .action)) 0) [] (units.unitFrom (t .0) (nest m (f .action)) (framesOf ws) xs))
+          (units.unitFrom (t .0) m (framesOf ws) xs)
+      go true e ih = ap (λ (l : List A). x ∷ cond (eqb (nest m (f .action)) 0) [] l) (subst same (after-own e) ih)
+      go false e ih = subst same (after-other e) ih
 
   -- The end of the walk is that of the check.
   pub pass-end : {i : ℕ} {s : State} {j : Judging} {ws : List ℕ} → Pass guards i s j ws → judgeFrom guards i s j ws .state ≡ checkFrom i s ws .state

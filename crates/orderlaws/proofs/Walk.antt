@@ -4,13 +4,13 @@ use Prim.Native.Nat.{ℕ, suc, _-_}
 use mathlib.Core.Path.{_≡_, refl, sym, ap, _∙_, subst}
 use mathlib.Core.Bool.{Bool, true, false, cond, not, _&&_, _||_}
 use mathlib.Core.Logic.{inl, inr}
-use mathlib.Core.List.{List, [], _∷_, _++_, map-append}
+use mathlib.Core.List.{List, [], _∷_, _++_}
 use native.Mathlib.Omega.{arith}
 use native.Mathlib.Numerals.{add-one}
 use borrow.Author.Tests.{eqb-true, eqb-false, eq-eqb, ne-eqb, ltb-true, le-leb, lt-leb}
 use lib.Dec.{eqb, leb, ltb}
 use lib.ListN.{length, getD, set, drop, length-set}
-use lib.Seq.{set-getD}
+use lib.Seq.{set-getD, drop-drop}
 use Rattle.laws.proofs.Logic.{by-test}
 use Rattle.laws.proofs.Lists.{getD-set, getD-filled, rest-of}
 use Rattle.frame.specs.Limits.{threadCount, lockCount, deepest}
@@ -30,7 +30,7 @@ use Rattle.soundness.proofs.Laws.{spared, Acquired, took, took-again, acquired,
 use Rattle.instrumented.specs.Rules.{Judging}
 use Rattle.operation.specs.Operation.{guardedAccess}
 use Rattle.reply.specs.declared.Mark.the-variants.{At, Absent}
-use Rattle.exchange.specs.Exchange.{frameOf, framesOf}
+use Rattle.exchange.specs.Exchange.{framesOf}
 use Rattle.commit.specs.Commit.{Tables, startTables, counted, committing, startIn, visited, unitStart}
 use Rattle.serial.specs.Walk.{unitFrom, unitOf, unitIn, walkFrom}
 use Rattle.rules.proofs.Counts.{Is, Counts, counted-next, start-counts}
@@ -172,34 +172,38 @@ module _ (guards : List ℕ) {i : ℕ} {s n : State} {j k : Judging} {x : Tables
     committed-is = λ u. next-committed u ∙ sym (ap (λ (y : Run). eqb (y .committed u) 0) (o .run));
   }
 
--- What the walk has of the units of the blocks that are open is what the walk over frames has of them.
-abbrev Opens : List ℕ → State → Tables → (ℕ → List Frame) → Type 0
-Opens all s x o =
-    (u : ℕ) → (getD (s .depths) u 0 ≡ 0 → ⊥) → framesOf (unitOf all (getD (x .starts) u 0) (record { 0 = u })) ≡ units.unitFrom u 0 (o u)
+-- What the walk has of the units of the blocks that are open is what the walk over frames has of them, over any element type.
+abbrev Opens : {A : Type 0} → List ℕ → List A → State → Tables → (ℕ → List Frame) → (ℕ → List A) → Type 0
+Opens all xs s x q y =
+    (u : ℕ) → (getD (s .depths) u 0 ≡ 0 → ⊥) → unitOf all xs (getD (x .starts) u 0) (record { 0 = u }) ≡ units.unitFrom u 0 (q u) (y u)
 
-module _ (guards all : List ℕ) {i w : ℕ} {s : State} {j : Judging} {x : Tables} {f : Frame} {ws : List ℕ} (q : ℕ → List Frame) (r : InRange f)
-    (d : decodeWord w ≡ decoded.Frame f) (p : Pass guards i s j (w ∷ ws)) (e : drop i all ≡ w ∷ ws) (h : Kept s j x) (v : Opens all s x q) where
+module _ {A : Type 0} (guards all : List ℕ) (xs : List A) {i w : ℕ} {s : State} {j : Judging} {x : Tables} {f : Frame} {ws : List ℕ} (q : ℕ → List Frame)
+    (y : ℕ → List A) (r : InRange f) (d : decodeWord w ≡ decoded.Frame f) (p : Pass guards i s j (w ∷ ws)) (e : drop i all ≡ w ∷ ws) (h : Kept s j x)
+    (v : Opens all xs s x q y) where
   -- the unit of the frame's thread, from its start on
-  unit-of : framesOf (unitOf all (startIn (getD (s .depths) (threadOf f) 0) i (getD (x .starts) (threadOf f) 0)) (f .thread))
+  unit-of : unitOf all xs (startIn (getD (s .depths) (threadOf f) 0) i (getD (x .starts) (threadOf f) 0)) (f .thread)
       ≡ units.unitFrom (threadOf f) 0 (cond (eqb (getD (s .depths) (threadOf f) 0) 0) (f ∷ framesOf ws) (q (threadOf f)))
+      (cond (eqb (getD (s .depths) (threadOf f) 0) 0) (drop i xs) (y (threadOf f)))
   unfolding unitOf
   unit-of = by-test (eqb (getD (s .depths) (threadOf f) 0) 0)
       (λ b. rw b
-      (ap (λ (l : List ℕ). framesOf (unitFrom (f .thread) 0 l)) e
-      ∙ (subst (λ (y : ℕ). framesOf (unitFrom (f .thread) y (w ∷ ws)) ≡ units.unitFrom (threadOf f) y (framesOf (w ∷ ws))) (eqb-true _ _ b)
-      (unit-frames guards (f .thread) p)
-      ∙ ap (λ (l : List Frame). units.unitFrom (threadOf f) 0 l) (frames-first w f ws d))))
+      (ap (λ (l : List ℕ). unitFrom (f .thread) 0 l (drop i xs)) e
+      ∙ (subst (λ (z : ℕ). unitFrom (f .thread) z (w ∷ ws) (drop i xs) ≡ units.unitFrom (threadOf f) z (framesOf (w ∷ ws)) (drop i xs)) (eqb-true _ _ b)
+      (unit-frames guards (f .thread) (drop i xs) p)
+      ∙ ap (λ (l : List Frame). units.unitFrom (threadOf f) 0 l (drop i xs)) (frames-first w f ws d))))
       (λ b. rw b (v (threadOf f) (eqb-false _ _ b)))
 
-  opens-next : {n : State} {k : Judging} → OneFrame guards i f s j n k → Opens all n (visited guards i f x) (openFrom (viewOf s j) q f (framesOf ws))
+  opens-next : {n : State} {k : Judging} → OneFrame guards i f s j n k
+      → Opens all xs n (visited guards i f x) (openFrom (viewOf s j) q f (f ∷ framesOf ws)) (openFrom (viewOf s j) y f (drop i xs))
   unfolding visited
   opens-next o u ne =
       rw (getD-set (x .starts) (threadOf f) _ u (omega (arith, h .starts-long, r .thread)), h .depths-are)
       (by-test (eqb u (threadOf f))
-      (λ a. let y : u ≡ threadOf f = eqb-true _ _ a in
-      rw a (subst (λ (z : ℕ). framesOf (unitOf all (startIn (getD (s .depths) (threadOf f) 0) i (getD (x .starts) (threadOf f) 0)) (record { 0 = z }))
-      ≡ units.unitFrom z 0 (cond (eqb (getD (s .depths) (threadOf f) 0) 0) (f ∷ framesOf ws) (q z))) (sym y) unit-of))
-      (λ a. rw a (v u (λ z. ne (depth-now guards u f o ∙ (rw (ne-eqb (threadOf f) u (λ y. eqb-false _ _ a (sym y))) z))))))
+      (λ a. let same : u ≡ threadOf f = eqb-true _ _ a in
+      rw a (subst (λ (z : ℕ). unitOf all xs (startIn (getD (s .depths) (threadOf f) 0) i (getD (x .starts) (threadOf f) 0)) (record { 0 = z })
+      ≡ units.unitFrom z 0 (cond (eqb (getD (s .depths) (threadOf f) 0) 0) (f ∷ framesOf ws) (q z)) (cond (eqb (getD (s .depths) (threadOf f) 0) 0) (drop i xs) (y z)))
+      (sym same) unit-of))
+      (λ a. rw a (v u (λ z. ne (depth-now guards u f o ∙ (rw (ne-eqb (threadOf f) u (λ same. eqb-false _ _ a (sym same))) z))))))
 
   -- a thread after its frame
   settled-own : run.settled (onto guards (viewOf s j) i f) (threadOf f)
@@ -208,43 +212,47 @@ module _ (guards all : List ℕ) {i w : ℕ} {s : State} {j : Judging} {x : Tabl
   settled-own = rw (eq-eqb (threadOf f) (threadOf f) refl)
 
   -- where a frame commits a unit
-  commits-unit : (b : ℕ) (u : List Frame) → framesOf (unitOf all b (f .thread)) ≡ u → (a z : Bool) (m c : ℕ) → (y : Bool) → eqb m 0 ≡ y → eqb c 0 ≡ y
-      → framesOf (unitIn (cond (eqb m 0) (cond (a || z) (At b) Absent) Absent) all (f .thread))
+  commits-unit : (b : ℕ) (u : List A) → unitOf all xs b (f .thread) ≡ u → (a z : Bool) (m c : ℕ) → (k : Bool) → eqb m 0 ≡ k → eqb c 0 ≡ k
+      → unitIn (cond (eqb m 0) (cond (a || z) (At b) Absent) Absent) all xs (f .thread)
       ≡ cond (eqb c 0 && (z || not (eqb (cond z 0 (cond (a && eqb c 0) (suc i) c)) 0))) u []
   commits-unit b u o a z m c false em ec = rw (em, ec)
   commits-unit b u o true true m c true em ec = rw (em, ec) o
-  commits-unit b u o true false m c true em ec = rw (em, ec, ne-eqb (suc i) 0 (λ y. omega arith)) o
+  commits-unit b u o true false m c true em ec = rw (em, ec, ne-eqb (suc i) 0 (λ k. omega arith)) o
   commits-unit b u o false true m c true em ec = rw (em, ec) o
   commits-unit b u o false false m c true em ec = rw (em, ec)
 
   -- The unit that the frame commits.
   emits : {l : Level} {n : State} → stepFrame f s ≡ stepped (outcome.Next l) n
-      → framesOf (unitIn (unitStart guards i f x) all (f .thread)) ≡ emitted guards (viewOf s j) q i f (framesOf ws)
+      → unitIn (unitStart guards i f x) all xs (f .thread) ≡ emitted guards (viewOf s j) q y i f (framesOf ws) (drop i xs)
   unfolding unitStart
   emits g =
       rw (commits-are guards f g h, h .depths-are, settled-own)
-      (commits-unit (startIn (getD (s .depths) (threadOf f) 0) i (getD (x .starts) (threadOf f) 0))
-      (units.unitFrom (threadOf f) 0 (cond (eqb (getD (s .depths) (threadOf f) 0) 0) (f ∷ framesOf ws) (q (threadOf f)))) unit-of
+      (commits-unit (startIn (getD (s .depths) (threadOf f) 0) i (getD (x .starts) (threadOf f) 0)) _ unit-of
       (run.committing (seen guards (viewOf s j) f)) (eqb (nest (getD (s .depths) (threadOf f) 0) (f .action)) 0)
       (getD (x .committed) (threadOf f) 0) (viewOf s j .committed (threadOf f)) (eqb (viewOf s j .committed (threadOf f)) 0) (h .committed-is (threadOf f)) refl)
 
 -- The walk over the words is the walk over the frames.
-walks : (guards all : List ℕ) (q : ℕ → List Frame) {i : ℕ} {s : State} {j : Judging} {x : Tables} {ws : List ℕ} → Pass guards i s j ws → drop i all ≡ ws
-    → Kept s j x → Opens all s x q → framesOf (walkFrom guards all i x ws) ≡ walk guards (viewOf s j) q i (framesOf ws)
+walks : {A : Type 0} (guards all : List ℕ) (xs : List A) (q : ℕ → List Frame) (y : ℕ → List A) {i : ℕ} {s : State} {j : Judging} {x : Tables} {ws : List ℕ}
+    → Pass guards i s j ws → drop i all ≡ ws → Kept s j x → Opens all xs s x q y
+    → walkFrom guards all xs i x ws ≡ walk guards (viewOf s j) q y i (framesOf ws) (drop i xs)
 unfolding walkFrom
-walks guards all q end e h v = refl
-walks guards all q {x = x} (on {i = i} {s = s} {j = j} {w = w} {ws = ws} {f = f} {n = n} {k = k} d g a o rest) e h v =
+walks guards all xs q y end e h v = refl
+walks {A} guards all xs q y {x = x} (on {i = i} {s = s} {j = j} {w = w} {ws = ws} {f = f} {n = n} {k = k} d g a o rest) e h v =
     let r = decoded-in-range w f d in
+    let q′ = openFrom (viewOf s j) q f (f ∷ framesOf ws) in
+    let y′ = openFrom (viewOf s j) y f (drop i xs) in
     rw (d, add-one i)
-    (map-append frameOf (unitIn (unitStart guards i f x) all (f .thread)) (walkFrom guards all (suc i) (visited guards i f x) ws)
-    ∙ (ap (λ (y : List Frame). y ++ framesOf (walkFrom guards all (suc i) (visited guards i f x) ws)) (emits guards all q r d (on d g a o rest) e h v g)
-    ∙ ap (λ (y : List Frame). emitted guards (viewOf s j) q i f (framesOf ws) ++ y)
-    (walks guards all (openFrom (viewOf s j) q f (framesOf ws)) rest (rest-of all i w ws e .2) (kept-next guards r g o h)
-    (opens-next guards all q r d (on d g a o rest) e h v o)
-    ∙ ap (λ (y : Run). walk guards y (openFrom (viewOf s j) q f (framesOf ws)) (suc i) (framesOf ws)) (o .run))))
+    (ap (λ (z : List A). z ++ walkFrom guards all xs (suc i) (visited guards i f x) ws) (emits guards all xs q y r d (on d g a o rest) e h v g)
+    ∙ ap (λ (z : List A). emitted guards (viewOf s j) q y i f (framesOf ws) (drop i xs) ++ z)
+    (walks guards all xs q′ y′ rest (rest-of all i w ws e .2) (kept-next guards r g o h) (opens-next guards all xs q y r d (on d g a o rest) e h v o)
+    ∙ (ap (λ (z : Run). walk guards z q′ y′ (suc i) (framesOf ws) (drop (suc i) xs)) (o .run)
+    ∙ ap (λ (z : List A). walk guards (onto guards (viewOf s j) i f) q′ y′ (suc i) (framesOf ws) z) (sym (rest-drop i xs)))))
+  where
+    rest-drop : (i : ℕ) (xs : List A) → drop 1 (drop i xs) ≡ drop (suc i) xs
+    rest-drop i xs = drop-drop 1 i xs ∙ rw (add-one i)
 
 -- From the start.
-pub pass-walk : (guards : List ℕ) {j : Judging} {ws : List ℕ} → Pass guards 0 start j ws
-    → framesOf (walkFrom guards ws 0 startTables ws) ≡ walk guards (viewOf start j) (λ t. []) 0 (framesOf ws)
+pub pass-walk : {A : Type 0} (guards : List ℕ) (xs : List A) {j : Judging} {ws : List ℕ} → Pass guards 0 start j ws
+    → walkFrom guards ws xs 0 startTables ws ≡ walk guards (viewOf start j) (λ t. []) (λ t. []) 0 (framesOf ws) xs
 unfolding start
-pass-walk guards {j} {ws} p = walks guards ws (λ t. []) p refl (kept-start j) (λ u ne. absurd (ne (getD-filled threadCount u 0)))
+pass-walk guards xs {j} {ws} p = walks guards ws xs (λ t. []) (λ t. []) p refl (kept-start j) (λ u ne. absurd (ne (getD-filled threadCount u 0)))

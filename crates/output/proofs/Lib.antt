@@ -1,2 +1,3 @@
--- Laws of written text that crates above cite.
+-- Laws of written text that crates above cite, and of signed numbers.
 pub mod Laws
+mod Signed

@@ -149,6 +149,11 @@ module _ (guards : List ℕ) where
   abbrev pub keyOf : Run → ℕ → Frame → List Frame → ℕ
   keyOf s n f l = cond (eqb (s .committed (threadOf f)) 0) (commitPlace (threadOf f) s n (f ∷ l)) (pred (s .committed (threadOf f)))
 
+  -- Elements of any type, one for each frame, with the frames' keys; and the frames themselves.
+  abbrev pub keyedBy : {A : Type 0} → Run → ℕ → List Frame → List A → List (Keyed A)
+  keyedBy s n [] xs = []
+  keyedBy s n (f ∷ l) [] = []
+  keyedBy s n (f ∷ l) (x ∷ xs) = record { key = keyOf s n f l; frame = x } ∷ keyedBy (onto s n f) (suc n) l xs
+
   abbrev pub keyed : Run → ℕ → List Frame → List (Keyed Frame)
-  keyed s n [] = []
-  keyed s n (f ∷ l) = record { key = keyOf s n f l; frame = f } ∷ keyed (onto s n f) (suc n) l
+  keyed s n l = keyedBy s n l l

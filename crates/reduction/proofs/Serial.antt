@@ -15,14 +15,17 @@ use Rattle.frame.specs.declared.Frame.{Frame}
 use Rattle.soundness.specs.Soundness.{nest}
 use Rattle.exchange.specs.Exchange.{Exchanges}
 use Rattle.exchange.specs.Independent.{independent}
-use Rattle.reduction.proofs.Run.{threadOf, Run, begin, put, settled, Keyed, onto, Good, commitPlace, keyOf, keyed, depthAt, Closed}
-use Rattle.reduction.proofs.Sort.{frames, bucket, buckets, All, sort-exchanges, sort-buckets, Within}
+use Rattle.reduction.proofs.Run.{threadOf, Run, begin, put, settled, Keyed, onto, Good, commitPlace, keyOf, keyedBy, keyed, depthAt, Closed}
+use Rattle.reduction.proofs.Sort.{frames, bucket, buckets, All, all-intro, Ordered, sort-exchanges, sort-buckets, Within}
 use Rattle.reduction.proofs.Steps.{put-own, put-other, commit-elim, commit-keeps, Past, past-next, Turn, turn, here, on, other, depth-own, key-before, key-after}
 use Rattle.reduction.proofs.Order.{ordered}
 
--- The frames by the place of their commit, lowest first, those of one commit in recorded order.
+-- The elements by the place of their frames' commit, lowest first, those of one commit in recorded order; and the frames themselves.
+abbrev pub orderBy : {A : Type 0} → List ℕ → List Frame → List A → List A
+orderBy guards l xs = frames (buckets (length l) 0 (keyedBy guards begin 0 l xs))
+
 abbrev pub serialOrder : List ℕ → List Frame → List Frame
-serialOrder guards l = frames (buckets (length l) 0 (keyed guards begin 0 l))
+serialOrder guards l = orderBy guards l l
 
 -- Figure 6: at each frame every other thread is outside. `d` has each thread's depth before the first.
 abbrev pub Serial : (ℕ → ℕ) → List Frame → Type 0
@@ -60,9 +63,14 @@ bucket-all Q c (x ∷ l) a = go (eqb (x .key) c) refl (bucket-all Q c l (a .1))
     go true e ih = (a .0 (eqb-true _ _ e), ih)
     go false e ih = ih
 
-pub frames-append : (l r : List (Keyed Frame)) → frames (l ++ r) ≡ frames l ++ frames r
+pub frames-append : {A : Type 0} (l r : List (Keyed A)) → frames (l ++ r) ≡ frames l ++ frames r
 frames-append [] r = refl
-frames-append (x ∷ l) r = ap (λ (k : List Frame). x .frame ∷ k) (frames-append l r)
+frames-append {A} (x ∷ l) r = ap (λ (k : List A). x .frame ∷ k) (frames-append l r)
+
+-- Where all neighbours may be exchanged, every list is in order.
+all-ordered : {A : Type 0} (l : List (Keyed A)) → Ordered (λ x y. true) l
+all-ordered [] = tt
+all-ordered (x ∷ l) = (all-intro (λ y. inl refl) l, all-ordered l)
 
 -- A unit and what is serial after it.
 serial-unit : (w : ℕ) (b : List (Keyed Frame)) (r : List Frame) (d : ℕ → ℕ) → All (λ x. threadOf (x .frame) ≡ w) b
@@ -90,9 +98,11 @@ module _ (guards : List ℕ) where
       → depthAt t (onto guards s n f .depth t) l ≡ 0
   closed-next t s n f l h = ap (λ (d : ℕ). depthAt t d l) (depth-next t s n f) ∙ h
 
-  pub frames-keyed : (s : Run) (n : ℕ) (l : List Frame) → frames (keyed guards s n l) ≡ l
-  frames-keyed s n [] = refl
-  frames-keyed s n (f ∷ l) = ap (λ (r : List Frame). f ∷ r) (frames-keyed (onto guards s n f) (suc n) l)
+  frames-keyed : {A : Type 0} (s : Run) (n : ℕ) (l : List Frame) (xs : List A) → length xs ≡ length l → frames (keyedBy guards s n l xs) ≡ xs
+  frames-keyed s n [] [] e = refl
+  frames-keyed s n [] (x ∷ xs) e = absurd (omega arith)
+  frames-keyed s n (f ∷ l) [] e = absurd (omega arith)
+  frames-keyed {A} s n (f ∷ l) (x ∷ xs) e = ap (λ (r : List A). x ∷ r) (frames-keyed (onto guards s n f) (suc n) l xs (omega arith))
 
   -- A unit commits within the recording.
   place-bound : (t : ℕ) (s : Run) (n : ℕ) (l : List Frame) → depthAt t (s .depth t) l ≡ 0 → (s .depth t ≡ 0 → ⊥)
@@ -127,21 +137,31 @@ module _ (guards : List ℕ) where
       go (other e c q) = absurd (e refl)
 
   -- Keys lie within the recording.
-  keys-within : (e : ℕ) (s : Run) (n : ℕ) (l : List Frame) → e ≡ n + length l → Past s n → ((t : ℕ) → depthAt t (s .depth t) l ≡ 0)
-      → Within 0 e (keyed guards s n l)
-  keys-within e s n [] q p h = tt
-  keys-within e s n (f ∷ l) q p h = (
+  keys-within : {A : Type 0} (e : ℕ) (s : Run) (n : ℕ) (l : List Frame) (xs : List A) → e ≡ n + length l → Past s n
+      → ((t : ℕ) → depthAt t (s .depth t) l ≡ 0) → Within 0 e (keyedBy guards s n l xs)
+  keys-within e s n [] xs q p h = tt
+  keys-within e s n (f ∷ l) [] q p h = tt
+  keys-within e s n (f ∷ l) (x ∷ xs) q p h = (
     (omega arith, omega (arith, key-bound s n f l p (h (threadOf f)))),
-    keys-within e (onto guards s n f) (suc n) l (omega arith) (past-next guards s n f p) (λ t. closed-next t s n f l (h t)),
+    keys-within e (onto guards s n f) (suc n) l xs (omega arith) (past-next guards s n f p) (λ t. closed-next t s n f l (h t)),
   )
 
-  -- Exchanges lead to the serial order.
+  -- Exchanges of neighbours that are independent, or in order, lead to the serial order.
+  order-exchanges : {A : Type 0} (ind : A → A → Bool) (l : List Frame) (xs : List A) → length xs ≡ length l → Ordered ind (keyedBy guards begin 0 l xs)
+      → Closed l → Exchanges ind xs (orderBy guards l xs)
+  order-exchanges {A} ind l xs e o c =
+      subst (λ (r : List A). Exchanges ind r (orderBy guards l xs)) (frames-keyed begin 0 l xs e)
+      (subst (λ (r : List (Keyed A)). Exchanges ind (frames (keyedBy guards begin 0 l xs)) (frames r))
+      (sort-buckets (length l) (keyedBy guards begin 0 l xs) (keys-within (length l) begin 0 l xs (omega arith) (λ u. omega arith) c))
+      (sort-exchanges ind (keyedBy guards begin 0 l xs) o))
+
+  -- Exchanges of independent frames do, where the recording does not go wrong.
   pub serial-exchanges : (l : List Frame) → Good guards begin 0 l → Closed l → Exchanges independent l (serialOrder guards l)
-  serial-exchanges l h c =
-      subst (λ (r : List Frame). Exchanges independent r (serialOrder guards l)) (frames-keyed begin 0 l)
-      (subst (λ (r : List (Keyed Frame)). Exchanges independent (frames (keyed guards begin 0 l)) (frames r))
-      (sort-buckets (length l) (keyed guards begin 0 l) (keys-within (length l) begin 0 l (omega arith) (λ u. omega arith) c))
-      (sort-exchanges independent (keyed guards begin 0 l) (ordered guards begin 0 l h (λ u. omega arith))))
+  serial-exchanges l h c = order-exchanges independent l l refl (ordered guards begin 0 l h (λ u. omega arith)) c
+
+  -- The serial order has the elements of the recording: exchanges of any neighbours lead to it.
+  pub serial-permutes : {A : Type 0} (l : List Frame) (xs : List A) → length xs ≡ length l → Closed l → Exchanges (λ x y. true) xs (orderBy guards l xs)
+  serial-permutes l xs e c = order-exchanges (λ x y. true) l xs e (all-ordered (keyedBy guards begin 0 l xs)) c
 
   -- The commit of the unit that a thread is in, or comes to next.
   abbrev pub unitKey : Run → ℕ → List Frame → ℕ → ℕ

@@ -17,6 +17,10 @@ module _ {A : Type 0} where
   frames [] = []
   frames (x ∷ l) = x .frame ∷ frames l
 
+  abbrev pub keys : List (Keyed A) → List ℕ
+  keys [] = []
+  keys (x ∷ l) = x .key ∷ keys l
+
   -- An element passes only smaller keys.
   abbrev pub insert : Keyed A → List (Keyed A) → List (Keyed A)
   insert x [] = x ∷ []

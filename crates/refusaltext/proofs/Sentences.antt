@@ -33,6 +33,7 @@ refusal-numbered refusal.LineBuffer = omega arith
 refusal-numbered refusal.VerdictLine = omega arith
 refusal-numbered refusal.TextBuffer = omega arith
 refusal-numbered refusal.TooOften = omega arith
+refusal-numbered refusal.MovesBuffer = omega arith
 
 -- the sentences in the order of their numbers, then those of 7 to 10 and of 20 whose frame is not known
 abbrev refusalLines : List ℕ
@@ -57,11 +58,12 @@ refusalLines =
     ++ (bytes (refusalSentence refusal.VerdictLine true)
     ++ (bytes (refusalSentence refusal.TextBuffer true)
     ++ (bytes (refusalSentence refusal.TooOften true)
+    ++ (bytes (refusalSentence refusal.MovesBuffer true)
     ++ (bytes (refusalSentence refusal.LockTaken false)
     ++ (bytes (refusalSentence refusal.LockNotHeld false)
     ++ (bytes (refusalSentence refusal.TooDeep false)
     ++ (bytes (refusalSentence refusal.NoOpenBlock false)
-    ++ (bytes (refusalSentence refusal.TooOften false)))))))))))))))))))))))))
+    ++ (bytes (refusalSentence refusal.TooOften false))))))))))))))))))))))))))
 
 -- the line of a refusal is its sentence
 pub refusal-line : (r : Refusal) (k : Bool) → nthLine (sentenceLine (refusalNumber r) k) refusalLines ≡ bytes (refusalSentence r k)
@@ -106,3 +108,5 @@ refusal-line refusal.TextBuffer true = refl
 refusal-line refusal.TextBuffer false = refl
 refusal-line refusal.TooOften true = refl
 refusal-line refusal.TooOften false = refl
+refusal-line refusal.MovesBuffer true = refl
+refusal-line refusal.MovesBuffer false = refl

@@ -3,7 +3,7 @@ use Prim.Native.Nat.{ℕ, _+_, _-_}
 use Prim.Native.String.{String}
 use mathlib.Core.Bool.{Bool, true, false, cond}
 use mathlib.Core.List.{List}
-use lib.Dec.{ltb}
+use lib.Dec.{eqb, ltb}
 use Rattle.frame.specs.declared.Refusal.{Refusal}
 use Rattle.frame.specs.declared.Refusal.the-variants as refusal
 use Rattle.frame.specs.declared.Refused.{Refused}
@@ -47,11 +47,12 @@ refusalSentence refusal.TextBuffer k = "refused: number 19, the text has fewer t
 refusalSentence refusal.TooOften true =
     "refused: number 20, @ of %, * by thread &, takes a lock that this thread holds 15 times already; hold it at most 15 times.\n"
 refusalSentence refusal.TooOften false = "refused: number 20, @ of % takes a lock that its thread holds 15 times already; hold it at most 15 times.\n"
+refusalSentence refusal.MovesBuffer k = "refused: number 21, the list of displacements has fewer than # numbers; lend one for each frame.\n"
 
 -- The line of a sentence in the text of them all: the sentences by their numbers, then those of 7 to 10 and of 20 whose frame is not known.
 abbrev pub sentenceLine : ℕ → Bool → ℕ
 sentenceLine n true = n - 1
-sentenceLine n false = cond (ltb n 7) (n - 1) (cond (ltb n 11) (n + 13) (cond (ltb n 20) (n - 1) 24))
+sentenceLine n false = cond (ltb n 7) (n - 1) (cond (ltb n 11) (n + 14) (cond (eqb n 20) 25 (n - 1)))
 
 -- "Each refusal is one sentence that says what to mend." (docs/TOOL.md)
 abbrev pub refusalText : Source → List ℕ → Refused → List ℕ

@@ -23,12 +23,12 @@ fn line_of(reason: Refusal, known: bool) -> u8
         return n - 1;
     }
     if n < 11 {
-        return n + 13;
+        return n + 14;
     }
-    if n < 20 {
-        return n - 1;
+    if n == 20 {
+        return 25;
     }
-    24
+    n - 1
 }
 
 // The sentence of a refusal.
@@ -60,6 +60,7 @@ fn say_refusal(out: &mut [u8], at: usize, reason: Refusal, f: Facts) -> usize
             refused: number 18, this is no verdict line: that has 32 digits 0-9 A-F, the first two 00 to 04 or 81 to FF, and one LF; hand it on as it was written.\n\
             refused: number 19, the text has fewer than # bytes from the given place on; lend them.\n\
             refused: number 20, @ of %, * by thread &, takes a lock that this thread holds 15 times already; hold it at most 15 times.\n\
+            refused: number 21, the list of displacements has fewer than # numbers; lend one for each frame.\n\
             refused: number 7, @ of % takes a lock that another thread holds; it has to be released before this line.\n\
             refused: number 8, @ of % lets go a lock that its thread does not hold; acquire it first or drop the line.\n\
             refused: number 9, @ of % is a begin inside 15 open blocks of its thread; nest at most 15.\n\

@@ -63,6 +63,7 @@ refusal-short refusal.VerdictLine k = refl
 refusal-short refusal.TextBuffer k = refl
 refusal-short refusal.TooOften true = refl
 refusal-short refusal.TooOften false = refl
+refusal-short refusal.MovesBuffer k = refl
 
 kind-short : (k : Kind) → Short (kindSentence k)
 unfolding bytes pieceWeight weight

@@ -1,11 +1,12 @@
--- How long the tool's answers can be: a verdict line, an answer in words, 4,096 lines of nine bytes, or a refusal.
+-- How long the tool's answers can be: a verdict line, an answer in words, 4,096 lines of at most 15 bytes, or a refusal.
 use Prim.Native.Nat.{ℕ, _≤_}
 use mathlib.Core.Path.{_≡_, refl}
 use mathlib.Core.List.{List, [], _∷_, _++_}
 use native.Mathlib.Omega.{arith}
-use lib.ListN.{length, replicate, length-replicate}
+use lib.ListN.{length}
 use Rattle.verdict.specs.Verdict.{verdictUnder}
 use Rattle.frame.specs.Limits.{mostFrames}
+use Rattle.frame.specs.declared.Refused.{Refused}
 use Rattle.text.specs.Text.{scanned, wordsTo, mostBytes}
 use Rattle.text.specs.declared.ReadReply.{ReadReply}
 use Rattle.text.specs.declared.ReadReply.the-variants as read
@@ -22,12 +23,12 @@ use Rattle.equal.specs.Equal.{equalReply}
 use Rattle.equal.specs.declared.EqualReply.{EqualReply}
 use Rattle.equal.specs.declared.EqualReply.the-variants as equal
 use Rattle.equal.specs.declared.Side.the-variants as side
-use Rattle.serial.specs.Order.{serialWords}
-use Rattle.order.specs.Order.{orderReply, orderUnder, onList as orderOnList}
-use Rattle.digits.proofs.Writing.{length-lines}
+use Rattle.order.specs.Order.{orderUnder}
+use Rattle.moves.specs.Moves.{movesUnder}
 use Rattle.line.proofs.Laws.{length-verdict-line}
-use Rattle.output.specs.Output.{bytes}
+use Rattle.output.specs.Output.{bytes, mostAnswer}
 use Rattle.output.proofs.Laws.{put-fits}
+use Rattle.phrase.specs.declared.Source.{Source}
 use Rattle.phrase.specs.declared.Source.the-variants as source
 use Rattle.fields.specs.Fields.{lineFields}
 use Rattle.fields.specs.declared.FieldsReply.{FieldsReply}
@@ -40,12 +41,13 @@ use Rattle.report.proofs.Texts.{plain, joined, decimal-within}
 use Rattle.report.proofs.Answers.{refusal-fits, explanation-fits}
 use Rattle.opening.specs.Opening.{openedRead, onList, opening}
 use Rattle.verdictreport.specs.VerdictReport.{verdictOpened, verdictReport, explainOpened, explainReport}
-use Rattle.serialreport.specs.SerialReport.{orderText, serialOpened, serialReport}
+use Rattle.serialreport.specs.SerialReport.{serialOpened, serialReport}
+use Rattle.movesreport.specs.MovesReport.{movesOpened, movesReport}
 use Rattle.equalreport.specs.EqualReport.{equalText, rightOpened, leftChecked, leftOpened, equalReport}
 use Rattle.report.specs.Fits.{Whole, ReportsFit}
 use Rattle.opening.specs.declared.Opened.{Opened}
 use Rattle.opening.specs.declared.Opened.the-variants as opened
-use Rattle.serialreport.proofs.Laws.{order-cases}
+use Rattle.report.proofs.Orders.{order-fits, moves-fit}
 
 pub verdict-fits : (j : Judgement) (list s : List ℕ) → length (verdictReport j list s) ≤ mostBytes
 verdict-fits j list s = go (opening j list s)
@@ -61,34 +63,27 @@ explain-fits j list s = go (opening j list s)
     go (opened.Frames n) = omega (arith, explanation-fits source.Recording (wordsTo s n) (verdictUnder j list (wordsTo s n)) n)
     go (opened.Refused f x) = omega (arith, refusal-fits f [] x)
 
--- the serial order of a recording, under a table of guards
-order-fits : (g ws : List ℕ) → length ws ≤ mostFrames → length (orderText (orderReply g ws mostFrames) ws (serialWords g ws)) ≤ mostBytes
-order-fits g ws h = go (replicate mostFrames 0) (length-replicate {A = ℕ} mostFrames 0)
+-- what is printed of a recording that is opened
+opened-fits : (j : Judgement) (list s : List ℕ) (text : Opened → List ℕ) (most : ℕ)
+    → ((n : ℕ) → length (wordsTo s n) ≤ mostFrames → length (text (opened.Frames n)) ≤ most)
+    → ((f : Source) (x : Refused) → length (text (opened.Refused f x)) ≤ most) → length (text (opening j list s)) ≤ most
+unfolding opening
+opened-fits j list s text most frames refused = go (guardsUnder j list .reply) (scanned s) refl
   where
-    go : (out : List ℕ) → length out ≡ mostFrames → length (orderText (orderReply g ws mostFrames) ws (serialWords g ws)) ≤ mostBytes
-    go out e =
-        rw (← e)
-        (order-cases g ws out (λ q. length (orderText q ws (serialWords g ws)) ≤ mostBytes) (λ x. omega (arith, refusal-fits source.Recording ws x))
-        (λ n. omega (arith, length-lines (serialWords g ws), n)))
-
--- and by a judgement
-under-fits : (j : Judgement) (list ws : List ℕ) → length ws ≤ mostFrames
-    → length (orderText (orderUnder j list ws mostFrames) ws (serialWords (guardsUnder j list .table) ws)) ≤ mostBytes
-unfolding orderUnder
-under-fits j list ws h = go (guardsUnder j list .reply)
-  where
-    go : (q : GuardsReply) → length (orderText (orderOnList q (orderReply (guardsUnder j list .table) ws mostFrames)) ws (serialWords (guardsUnder j list .table) ws)) ≤ mostBytes
-    go (guards.Lines n) = order-fits (guardsUnder j list .table) ws h
-    go (guards.Refused x) = omega (arith, refusal-fits source.Recording ws x)
+    go : (g : GuardsReply) (q : ReadReply) → scanned s ≡ q → length (text (onList g (openedRead source.Recording q))) ≤ most
+    go (guards.Lines m) (read.Lines n) e = frames n (omega (arith, length-wordsTo s n, scan-limit s n e))
+    go (guards.Lines m) (read.Refused x) e = refused source.Recording x
+    go (guards.Refused x) q e = refused source.GuardList x
 
 pub serial-fits : (j : Judgement) (list s : List ℕ) → length (serialReport j list s) ≤ mostBytes
-unfolding opening
-serial-fits j list s = go (guardsUnder j list .reply) (scanned s) refl
-  where
-    go : (g : GuardsReply) (q : ReadReply) → scanned s ≡ q → length (serialOpened (onList g (openedRead source.Recording q)) j list s) ≤ mostBytes
-    go (guards.Lines m) (read.Lines n) e = under-fits j list (wordsTo s n) (omega (arith, length-wordsTo s n, scan-limit s n e))
-    go (guards.Lines m) (read.Refused x) e = omega (arith, refusal-fits source.Recording [] x)
-    go (guards.Refused x) q e = omega (arith, refusal-fits source.GuardList [] x)
+serial-fits j list s =
+    opened-fits j list s (λ o. serialOpened o j list s) mostBytes
+    (λ n h. order-fits (orderUnder j list (wordsTo s n) mostFrames) (guardsUnder j list .table) (wordsTo s n) h) (λ f x. omega (arith, refusal-fits f [] x))
+
+pub moves-report-fits : (j : Judgement) (list s : List ℕ) → length (movesReport j list s) ≤ mostAnswer
+moves-report-fits j list s =
+    opened-fits j list s (λ o. movesOpened o j list s) mostAnswer
+    (λ n h. moves-fit (movesUnder j list (wordsTo s n) mostFrames) (guardsUnder j list .table) (wordsTo s n) h) (λ f x. omega (arith, refusal-fits f [] x))
 
 equal-text : (q : EqualReply) (l r : List ℕ) → length (equalText q l r) ≤ mostBytes
 unfolding bytes
@@ -130,16 +125,17 @@ line-fits w = go (lineFields (w ++ (10 ∷ [])))
     go (fields.Read f) = kept-fits (keptReply f) (f .frame)
     go (fields.Refused x) = omega (arith, refusal-fits source.Text [] x)
 
-whole : (b t : List ℕ) → mostBytes ≤ length b → length t ≤ mostBytes → Whole b t
+whole : (b t : List ℕ) → mostAnswer ≤ length b → length t ≤ mostAnswer → Whole b t
 whole b t h f = put-fits b t (omega arith)
 
 pub reports-fit : ReportsFit
 reports-fit b h = (
   λ j list s. (
-    whole b (verdictReport j list s) h (verdict-fits j list s),
-    whole b (explainReport j list s) h (explain-fits j list s),
-    whole b (serialReport j list s) h (serial-fits j list s),
+    whole b (verdictReport j list s) h (omega (arith, verdict-fits j list s)),
+    whole b (explainReport j list s) h (omega (arith, explain-fits j list s)),
+    whole b (serialReport j list s) h (omega (arith, serial-fits j list s)),
+    whole b (movesReport j list s) h (moves-report-fits j list s),
   ),
-  λ left right. whole b (equalReport left right) h (equal-fits left right),
-  λ word. whole b (lineReport word) h (line-fits word),
+  λ left right. whole b (equalReport left right) h (omega (arith, equal-fits left right)),
+  λ word. whole b (lineReport word) h (omega (arith, line-fits word)),
 )

@@ -1,5 +1,7 @@
--- How long texts, sentences and answers in words can be: Texts, Sentences, Answers. Fits: the tool's answers fit.
+-- How long texts, sentences, answers in words, and orders and displacements can be: Texts, Sentences, Answers, Orders. Fits: the tool's
+-- answers fit.
 mod Texts
 mod Sentences
 mod Answers
+mod Orders
 pub mod Fits

@@ -1,13 +1,15 @@
 -- How long numbers and sets of locks are as text.
-use Prim.Native.Nat.{ℕ, zero, suc, _+_, _*_, _/_, _%_, _≤_}
+use Prim.Native.Nat.{ℕ, zero, suc, _+_, _*_, _/_, _%_, _≤_, _<_}
 use Prim.Native.String.{String}
+use mathlib.Core.Path.{_≡_}
 use mathlib.Core.Bool.{Bool, true, false, cond}
 use mathlib.Core.List.{List, [], _++_}
 use native.Mathlib.Omega.{arith}
 use lib.Dec.{eqb}
+use lib.IntN.{ℤ, pos, negsuc, natAbs}
 use lib.ListN.{length, length-append}
 use Rattle.frame.specs.Limits.{lockCount, allLocks}
-use Rattle.output.specs.Output.{bytes, decimalDigits, decimal, lockText, listed, locksText}
+use Rattle.output.specs.Output.{bytes, decimalDigits, decimal, signed, lockText, listed, locksText}
 
 -- a text of at most n bytes
 pub record Within (n : ℕ) (t : List ℕ) : Type 0 where
@@ -38,6 +40,30 @@ digits-within (suc k) n = either (eqb n 0) none (record { fits = simp length-app
 pub decimal-within : (n : ℕ) → Within 20 (decimal n)
 unfolding decimal
 decimal-within n = either (eqb n 0) (record { fits = omega arith }) (digits-within 20 n)
+
+-- numbers below b have at most k digits
+abbrev Short : ℕ → ℕ → Type 0
+Short k b = (m n : ℕ) → n < b → Within k (decimalDigits m n)
+
+no-digit : Short 0 1
+unfolding decimalDigits
+no-digit zero n h = none
+no-digit (suc m) n h = let e : n ≡ 0 = omega arith in rw e none
+
+one-more : {k b : ℕ} → Short k b → Short (suc k) (10 * b)
+unfolding decimalDigits
+one-more s zero n h = none
+one-more s (suc m) n h = either (eqb n 0) none (record { fits = simp length-append (omega (arith, s m (n / 10) (omega arith) .fits)) })
+
+-- a number below 10,000: four digits, and one byte more with its sign
+decimal-short : (n : ℕ) → n < 10000 → Within 4 (decimal n)
+unfolding decimal
+decimal-short n h = either (eqb n 0) (record { fits = omega arith }) (one-more (one-more (one-more (one-more no-digit))) 20 n h)
+
+pub signed-short : (d : ℤ) → natAbs d < 10000 → Within 5 (signed d)
+signed-short (pos n) h =
+    either (eqb n 0) (wider (decimal-short 0 (omega arith)) (omega arith)) (record { fits = omega (arith, decimal-short n h .fits) })
+signed-short (negsuc n) h = record { fits = omega (arith, decimal-short (suc n) h .fits) }
 
 -- a lock: its number, a comma and a blank
 lock-within : (n s : ℕ) → Within 22 (lockText n s)

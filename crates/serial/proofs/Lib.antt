@@ -1,2 +1,2 @@
--- Units: the unit writer's loop.
-mod Units
+-- Units: a unit frame by frame, and the unit writer's loop.
+pub mod Units

@@ -29,7 +29,7 @@ nest-by write o d = refl
 nest-by begin o d = refl
 nest-by end o d = refl
 
-by-low : (op d : ℕ) → depthBy op d ≤ d + 1
+pub by-low : (op d : ℕ) → depthBy op d ≤ d + 1
 by-low op d = either (λ (x : ℕ). x ≤ d + 1) (eqb op 5) (omega arith) (either (λ (x : ℕ). x ≤ d + 1) (eqb op 6) (omega arith) (omega arith))
 
 -- the operation and the thread of a word that decodes are those of its frame
@@ -40,46 +40,58 @@ own-word w e t d =
     let p = nest-by (operation (w / 16777216) (s .low) (s .high)) (w % 65536) d in
     rw (e, s .frame) (ap (λ (x : ℕ). cond (eqb (w / 65536 % 256) (t .0)) (mine x) other) p)
 
+-- A turn of the loop over a unit, over any element type: the frame at place i, of which the element is x, is of another thread or of this one.
+module _ {A : Type 0} (ws : List ℕ) (xs : List A) {x : A} (i : ℕ) (s : checkReply ws ≡ check.Sound) (h : i < length ws) (g : drop i xs ≡ x ∷ drop (i + 1) xs)
+    (t : Thread) (d : ℕ) where
+  seen : ownFrame (decodeWord (getD ws i 0)) t d ≡ cond (eqb (getD ws i 0 / 65536 % 256) (t .0)) (mine (depthBy (getD ws i 0 / 16777216) d)) other
+  seen = own-word (getD ws i 0) (sound-decodes ws s i h) t d
+
+  pub other-turn : (getD ws i 0 / 65536 % 256 ≡ t .0 → ⊥) → unitFrom t d (drop i ws) (drop i xs) ≡ unitFrom t d (drop (i + 1) ws) (drop (i + 1) xs)
+  unfolding unitFrom
+  other-turn e = rw (drop-cons ws i 0 h, g, seen, ne-eqb _ _ e, add-one i)
+
+  pub own-turn : getD ws i 0 / 65536 % 256 ≡ t .0 → unitFrom t d (drop i ws) (drop i xs)
+      ≡ x ∷ cond (eqb (depthBy (getD ws i 0 / 16777216) d) 0) [] (unitFrom t (depthBy (getD ws i 0 / 16777216) d) (drop (i + 1) ws) (drop (i + 1) xs))
+  unfolding unitFrom
+  own-turn e = rw (drop-cons ws i 0 h, g, seen, eq-eqb _ _ e, add-one i)
+
+-- the end of the recording
+pub unit-over : {A : Type 0} (ws : List ℕ) (xs : List A) (t : Thread) (d i : ℕ) → length ws ≤ i → unitFrom t d (drop i ws) (drop i xs) ≡ []
+unfolding unitFrom
+unit-over ws xs t d i h = rw (drop-of-length-le ws h)
+
+-- the words themselves as elements
+words-on : (ws : List ℕ) (i : ℕ) → i < length ws → drop i ws ≡ getD ws i 0 ∷ drop (i + 1) ws
+words-on ws i h = rw (drop-cons ws i 0 h, add-one i)
+
 -- the loop of the unit writer
 pub record UnitInv (ws : List ℕ) (b : ℕ) (t : Thread) (out₀ out : List ℕ) (n d i : ℕ) : Type 0 where
   pub low : d ≤ i
-  pub written : Written out₀ out n (unitOf ws b t) (unitFrom t d (drop i ws))
+  pub written : Written out₀ out n (unitOf ws ws b t) (unitFrom t d (drop i ws) (drop i ws))
 
 pub unit-begins : (ws out : List ℕ) (b : ℕ) (t : Thread) → UnitInv ws b t out out 0 0 b
 unfolding unitOf
-unit-begins ws out b t = record { low = omega arith; written = written-none out (unitFrom t 0 (drop b ws)) }
+unit-begins ws out b t = record { low = omega arith; written = written-none out (unitFrom t 0 (drop b ws) (drop b ws)) }
 
 module _ {ws : List ℕ} {b : ℕ} {t : Thread} {out₀ out : List ℕ} {n d i : ℕ} (inv : UnitInv ws b t out₀ out n d i) where
-  pub unit-ends : length ws ≤ i → Written out₀ out n (unitOf ws b t) []
-  unfolding unitFrom
-  unit-ends h = subst (λ (l : List ℕ). Written out₀ out n (unitOf ws b t) (unitFrom t d l)) (drop-of-length-le ws h) (inv .written)
+  -- what is left of the unit
+  left-is : {l : List ℕ} → unitFrom t d (drop i ws) (drop i ws) ≡ l → Written out₀ out n (unitOf ws ws b t) l
+  left-is e = subst (λ (l : List ℕ). Written out₀ out n (unitOf ws ws b t) l) e (inv .written)
+
+  pub unit-ends : length ws ≤ i → Written out₀ out n (unitOf ws ws b t) []
+  unit-ends h = left-is (unit-over ws ws t d i h)
 
   module _ (s : checkReply ws ≡ check.Sound) (h : i < length ws) where
-    abbrev word : ℕ
-    word = getD ws i 0
+    pub passes-over : (getD ws i 0 / 65536 % 256 ≡ t .0 → ⊥) → UnitInv ws b t out₀ out n d (i + 1)
+    passes-over e = record { low = omega (arith, inv .low); written = left-is (other-turn ws ws i s h (words-on ws i h) t d e) }
 
-    seen : ownFrame (decodeWord word) t d ≡ cond (eqb (word / 65536 % 256) (t .0)) (mine (depthBy (word / 16777216) d)) other
-    seen = own-word word (sound-decodes ws s i h) t d
+    module _ (e : getD ws i 0 / 65536 % 256 ≡ t .0) (r : length (unitOf ws ws b t) ≤ length out₀) where
+      pub has-room : n < length out
+      has-room = omega (arith, room (inv .written) r, ap length (own-turn ws ws i s h (words-on ws i h) t d e))
 
-    other-turn : (word / 65536 % 256 ≡ t .0 → ⊥) → unitFrom t d (drop i ws) ≡ unitFrom t d (drop (i + 1) ws)
-    unfolding unitFrom
-    other-turn e = rw (drop-cons ws i 0 h, seen, ne-eqb _ _ e, add-one i)
+      module _ {d′ : ℕ} (q : d′ ≡ depthBy (getD ws i 0 / 16777216) d) where
+        pub copies : (d′ ≡ 0 → ⊥) → UnitInv ws b t out₀ (set out n (getD ws i 0)) (n + 1) d′ (i + 1)
+        copies z = record { low = omega (arith, inv .low, by-low (getD ws i 0 / 16777216) d); written = written-one (left-is (own-turn ws ws i s h (words-on ws i h) t d e ∙ rw (← q, ne-eqb d′ 0 z))) has-room }
 
-    pub passes-over : (word / 65536 % 256 ≡ t .0 → ⊥) → UnitInv ws b t out₀ out n d (i + 1)
-    passes-over e = record { low = omega (arith, inv .low); written = subst (λ (l : List ℕ). Written out₀ out n (unitOf ws b t) l) (other-turn e) (inv .written) }
-
-    module _ (e : word / 65536 % 256 ≡ t .0) where
-      own-turn : unitFrom t d (drop i ws) ≡ word ∷ cond (eqb (depthBy (word / 16777216) d) 0) [] (unitFrom t (depthBy (word / 16777216) d) (drop (i + 1) ws))
-      unfolding unitFrom
-      own-turn = rw (drop-cons ws i 0 h, seen, eq-eqb _ _ e, add-one i)
-
-      module _ (r : length (unitOf ws b t) ≤ length out₀) where
-        pub has-room : n < length out
-        has-room = omega (arith, room (inv .written) r, ap length own-turn)
-
-        module _ {d′ : ℕ} (q : d′ ≡ depthBy (word / 16777216) d) where
-          pub copies : (d′ ≡ 0 → ⊥) → UnitInv ws b t out₀ (set out n word) (n + 1) d′ (i + 1)
-          copies z = record { low = omega (arith, inv .low, by-low (word / 16777216) d); written = written-one (subst (λ (l : List ℕ). Written out₀ out n (unitOf ws b t) l) (own-turn ∙ rw (← q, ne-eqb d′ 0 z)) (inv .written)) has-room }
-
-          pub copies-last : d′ ≡ 0 → Written out₀ (set out n word) (n + 1) (unitOf ws b t) []
-          copies-last z = written-one (subst (λ (l : List ℕ). Written out₀ out n (unitOf ws b t) l) (own-turn ∙ rw (← q, eq-eqb d′ 0 z)) (inv .written)) has-room
+        pub copies-last : d′ ≡ 0 → Written out₀ (set out n (getD ws i 0)) (n + 1) (unitOf ws ws b t) []
+        copies-last z = written-one (left-is (own-turn ws ws i s h (words-on ws i h) t d e ∙ rw (← q, eq-eqb d′ 0 z))) has-room

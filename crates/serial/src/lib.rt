@@ -10,7 +10,7 @@ ghost use Rattle.soundness.specs.declared.CheckReply.the-variants as check;
 ghost use Rattle.serial.specs.Walk.{depthBy, unitOf, unitIn};
 
 // The depth of a thread after its frame with an operation.
-fn depth_by(op: u32, d: u32) -> u32
+pub fn depth_by(op: u32, d: u32) -> u32
     requires { ⌜ d < 4294967295 ⌝ }
     ensures { λ r. ⌜ r ≡ depthBy op d ⌝ }
 {
@@ -29,9 +29,9 @@ fn depth_by(op: u32, d: u32) -> u32
 // The frames of the unit of thread t that starts at a place, copied to the front of out; how many. Of the words of other threads only the
 // thread is looked at.
 fn write_unit(words: &[u32], begin: usize, t: Thread, out: &mut [u32]) -> usize
-    requires { ⌜ checkReply (now words) ≡ check.Sound ⌝ ∗ ⌜ length (unitOf (now words) begin t) ≤ length (now out) ⌝ }
-    ensures count { λ r. ⌜ r ≡ length (unitOf (now (words .entry)) begin t) ⌝ }
-    ensures contents { λ r. ⌜ now (out .exit) ≡ unitOf (now (words .entry)) begin t ++ drop (length (unitOf (now (words .entry)) begin t)) (now (out .entry)) ⌝ }
+    requires { ⌜ checkReply (now words) ≡ check.Sound ⌝ ∗ ⌜ length (unitOf (now words) (now words) begin t) ≤ length (now out) ⌝ }
+    ensures count { λ r. ⌜ r ≡ length (unitOf (now (words .entry)) (now (words .entry)) begin t) ⌝ }
+    ensures contents { λ r. ⌜ now (out .exit) ≡ unitOf (now (words .entry)) (now (words .entry)) begin t ++ drop (length (unitOf (now (words .entry)) (now (words .entry)) begin t)) (now (out .entry)) ⌝ }
 {
     let thread = t.0 as u32;
     let mut n: usize = 0;
@@ -55,9 +55,9 @@ fn write_unit(words: &[u32], begin: usize, t: Thread, out: &mut [u32]) -> usize
 
 // The unit of thread t that starts at a mark, copied to out from a place on; the place behind it. Where the mark is absent there is none.
 pub fn write_at(words: &[u32], start: Mark, t: Thread, out: &mut [u32], at: usize) -> usize
-    requires { ⌜ checkReply (now words) ≡ check.Sound ⌝ ∗ ⌜ at + length (unitIn start (now words) t) ≤ length (now out) ⌝ }
-    ensures behind { λ r. ⌜ r ≡ at + length (unitIn start (now (words .entry)) t) ⌝ }
-    ensures contents { λ r. ⌜ now (out .exit) ≡ take at (now (out .entry)) ++ (unitIn start (now (words .entry)) t ++ drop (at + length (unitIn start (now (words .entry)) t)) (now (out .entry))) ⌝ }
+    requires { ⌜ checkReply (now words) ≡ check.Sound ⌝ ∗ ⌜ at + length (unitIn start (now words) (now words) t) ≤ length (now out) ⌝ }
+    ensures behind { λ r. ⌜ r ≡ at + length (unitIn start (now (words .entry)) (now (words .entry)) t) ⌝ }
+    ensures contents { λ r. ⌜ now (out .exit) ≡ take at (now (out .entry)) ++ (unitIn start (now (words .entry)) (now (words .entry)) t ++ drop (at + length (unitIn start (now (words .entry)) (now (words .entry)) t)) (now (out .entry))) ⌝ }
 {
     let Mark::At(b) = start else {
         return at;

@@ -1,4 +1,4 @@
-// Functions that C programs call: equality of recordings, and the serial order.
+// Functions that C programs call: equality of recordings, the serial order, and displacements.
 use equal::EqualReply;
 use equal::Side;
 use frame::Refused;
@@ -10,6 +10,7 @@ ghost use lib.ListN.{length};
 ghost use Rattle.equal.specs.Equal.{equalReply};
 ghost use Rattle.guards.specs.declared.Judgement.the-variants.{Declared, Inferred};
 ghost use Rattle.order.specs.Order.{orderUnder, outUnder};
+ghost use Rattle.moves.specs.Moves.{movesUnder, movesOutUnder};
 ghost use Rattle.traceorder.specs.Answers.{packedSide, equalAnswer, orderAnswer};
 
 // A refusal of one side of a comparison as one number.
@@ -62,4 +63,24 @@ pub extern "C" fn trace_serial_inferred(words: &[u32], out: &mut [u32]) -> u64
 {
     let r = order::order(Judgement::Inferred, b"", words, out);
     pack_order(r)
+}
+
+// How far each frame moves, with declared guards.
+#[no_mangle]
+pub extern "C" fn trace_moves_declared(list: &[u8], words: &[u32], moves: &mut [i32]) -> u64
+    ensures reply { λ n. ⌜ n ≡ orderAnswer (movesUnder Declared (now (list .entry)) (now (words .entry)) (length (now (moves .entry)))) ⌝ }
+    ensures contents { λ n. ⌜ now (moves .exit) ≡ movesOutUnder Declared (now (list .entry)) (now (words .entry)) (now (moves .entry)) ⌝ }
+{
+    let m = moves::moves(Judgement::Declared, list, words, moves);
+    pack_order(m)
+}
+
+// How far each frame moves, with inferred guards.
+#[no_mangle]
+pub extern "C" fn trace_moves_inferred(words: &[u32], moves: &mut [i32]) -> u64
+    ensures reply { λ n. ⌜ n ≡ orderAnswer (movesUnder Inferred [] (now (words .entry)) (length (now (moves .entry)))) ⌝ }
+    ensures contents { λ n. ⌜ now (moves .exit) ≡ movesOutUnder Inferred [] (now (words .entry)) (now (moves .entry)) ⌝ }
+{
+    let n = moves::moves(Judgement::Inferred, b"", words, moves);
+    pack_order(n)
 }

@@ -1,5 +1,5 @@
 // The command-line tool. Its words, its files and standard output are crate console's; what is
-// printed of the files is said by the crates verdictreport, serialreport and equalreport, and of a kept line by linereport.
+// printed of the files is said by the crates verdictreport, serialreport, movesreport and equalreport, and of a kept line by linereport.
 use command::Command;
 use command::Request;
 use console::ROOM;
@@ -7,10 +7,11 @@ use guards::Judgement;
 
 // The answer to a recording. The other file is the guard list, or the right recording.
 fn answer(c: Command, j: Judgement, text: &[u8], other: &[u8]) {
-    let mut out = console::room();
+    let mut out = console::answer_room();
     let n = match c {
         Command::Verdict => verdictreport::verdict_report(j, other, text, &mut out),
         Command::Serial => serialreport::serial_report(j, other, text, &mut out),
+        Command::Moves => movesreport::moves_report(j, other, text, &mut out),
         Command::Equal => equalreport::equal_report(text, other, &mut out),
         _ => verdictreport::explain_report(j, other, text, &mut out),
     };
@@ -42,7 +43,7 @@ fn judge(c: Command, j: Judgement) {
 fn explain_line() {
     let mut word = [0u8; 64];
     let k = os::arg(2, &mut word);
-    let mut out = console::room();
+    let mut out = console::answer_room();
     let n = linereport::line_report(&word[..k], &mut out);
     console::print(&out[..n]);
 }

@@ -1,2 +1,2 @@
--- Walks: the loop of `write_order`.
+-- Walks: the loops of `write_order` and `write_moves`.
 mod Walks

@@ -1,4 +1,4 @@
-// The serial order of a recording, written unit by unit: a walk that copies each unit where it commits.
+// The serial order of a recording, unit by unit: walks that write each unit where it commits, its words or its displacements.
 use frame::Decoded;
 use frame::LOCKS;
 use frame::Refused;
@@ -10,7 +10,9 @@ ghost use mathlib.Core.List.{_++_};
 ghost use Prim.Native.Nat.{_≤_};
 ghost use lib.ListN.{length, drop};
 ghost use Rattle.soundness.specs.Soundness.{checkReply};
-ghost use Rattle.serial.specs.Walk.{walkWords};
+ghost use Rattle.frame.specs.Limits.{mostFrames};
+ghost use Rattle.serial.specs.Walk.{walkOf, walkWords};
+ghost use Rattle.displacement.specs.Displacement.{places, moved};
 
 // The units of a sound recording, each written where the one before stopped.
 pub fn write_order(words: &[u32], guards: &[u8; VARIABLES], out: &mut [u32]) -> CheckReply
@@ -44,6 +46,42 @@ pub fn write_order(words: &[u32], guards: &[u8; VARIABLES], out: &mut [u32]) -> 
         let thread = f.thread;
         at = serial::write_at(words, start, thread, out, at);
         i += 1;
+    }
+    CheckReply::Sound
+}
+
+// The displacements of a sound recording's frames, those of each unit where it commits.
+pub fn write_moves(words: &[u32], guards: &[u8; VARIABLES], moves: &mut [i32]) -> CheckReply
+    requires { ⌜ checkReply (now words) ≡ CheckReply.Sound ⌝ ∗ ⌜ length (now words) ≤ length (now moves) ⌝ ∗ ⌜ length (walkOf (now guards) (now words) (places (now words))) ≤ mostFrames ⌝ }
+    ensures reply { λ r. ⌜ r ≡ CheckReply.Sound ⌝ }
+    ensures contents { λ r. ⌜ now (moves .exit) ≡ moved 0 (walkOf (now (guards .entry)) (now (words .entry)) (places (now (words .entry)))) (now (moves .entry)) ⌝ }
+{
+    let mut counts = [0u32; LOCKS];
+    let mut depths = [0u32; THREADS];
+    let mut starts = [0u32; THREADS];
+    let mut committed = [0u8; THREADS];
+    let mut k: usize = 0;
+    let mut p: usize = 0;
+    while p < words.len() {
+        let d = frame::decode(words[p]);
+        let Decoded::Frame(f) = d else {
+            return CheckReply::Refused(Refused {
+                reason: frame::refusal_of(d),
+                place: p as u32,
+            });
+        };
+        let start = commit::visit(
+            guards,
+            &mut counts,
+            &mut depths,
+            &mut starts,
+            &mut committed,
+            p as u32,
+            f,
+        );
+        let thread = f.thread;
+        k = displacement::move_at(words, start, thread, moves, k);
+        p += 1;
     }
     CheckReply::Sound
 }

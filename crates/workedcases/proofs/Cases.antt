@@ -13,8 +13,9 @@ use Rattle.output.specs.Output.{bytes}
 use Rattle.answer.specs.Answer.{textJudged}
 use Rattle.exchange.specs.Pull.{pull, pullAll}
 use Rattle.serial.specs.Order.{commitFrom, commitsFrom, unitAt, unitsFrom}
+use Rattle.displacement.specs.Displacement.{placesFrom, indexOf, displacements}
 use Rattle.workedcases.specs.Cases.{AllRowsHold}
 
 pub all-rows-hold : AllRowsHold
-unfolding decodeParts digitOf digitsValue lineOf wordAt scanFrom wordsTo guardsFrom stepAction checkFrom start judgeOperation judgeFrom startJudging fullSets judgement verdictUnder inferredGuards inferredReply byteOf digits fieldsLine bytes textJudged pull pullAll commitFrom commitsFrom unitAt unitsFrom
+unfolding decodeParts digitOf digitsValue lineOf wordAt scanFrom wordsTo guardsFrom stepAction checkFrom start judgeOperation judgeFrom startJudging fullSets judgement verdictUnder inferredGuards inferredReply byteOf digits fieldsLine bytes textJudged pull pullAll commitFrom commitsFrom unitAt unitsFrom placesFrom indexOf displacements
 all-rows-hold = refl

@@ -1,11 +1,12 @@
 -- The cases of docs/FORMAT.md that are marked *, as rows of one list, and the claim that every row holds. Words are written as there; a
 -- recording under inferred guards goes in as text, as the planner hands it in.
-use Prim.Native.Nat.{ℕ, _+_}
+use Prim.Native.Nat.{ℕ}
 use Prim.Native.String.{String}
 use mathlib.Core.Path.{_≡_}
 use mathlib.Core.Bool.{Bool, true, false, _&&_}
 use mathlib.Core.List.{List, [], _∷_, _++_}
 use lib.Dec.{eqb}
+use lib.IntN.{ℤ, pos, negsuc, negℤ}
 use lib.ListN.{length, replicate}
 use Rattle.guards.specs.declared.Judgement.the-variants.{Declared}
 use Rattle.verdict.specs.Verdict.{verdictUnder}
@@ -13,7 +14,8 @@ use Rattle.guards.specs.Guards.{noGuards, inferredGuards}
 use Rattle.equal.specs.Equal.{equalReply}
 use Rattle.equal.specs.declared.EqualReply.{EqualReply}
 use Rattle.equal.specs.declared.EqualReply.the-variants.{Equal, Different, Refused}
-use Rattle.serial.specs.Order.{commits, inSerialOrder}
+use Rattle.serial.specs.Order.{commits}
+use Rattle.displacement.specs.Displacement.{orderedPlaces, displacements}
 use Rattle.digits.specs.Digits.{digits}
 use Rattle.line.specs.Line.{placeWidth, markField, fieldMark, replyFields, verdictLine}
 use Rattle.output.specs.Output.{bytes}
@@ -27,14 +29,15 @@ textOf [] = []
 textOf (w ∷ ws) = digits 8 w ++ (10 ∷ textOf ws)
 
 -- What a row says: the line that the planner's text is answered with, byte for byte; the fields of the verdict line of a recording, with
--- inferred guards, or with those of a guard list; the commit of each frame's unit and the serial order by place, under a table of guards;
--- whether two recordings are equal.
+-- inferred guards, or with those of a guard list; the commit of each frame's unit, the serial order by place and the displacements, under
+-- a table of guards; whether two recordings are equal.
 pub data Row : Type 0 where
   planner : String → String → Row
   inferred : List ℕ → Fields → Row
   declared : List ℕ → List ℕ → Fields → Row
   committed : List ℕ → List ℕ → List ℕ → Row
   ordered : List ℕ → List ℕ → List ℕ → Row
+  displaced : List ℕ → List ℕ → List ℤ → Row
   equal : List ℕ → List ℕ → Row
   different : List ℕ → List ℕ → Row
 
@@ -59,10 +62,21 @@ sameNumbers [] (y ∷ ys) = false
 sameNumbers (x ∷ xs) [] = false
 sameNumbers (x ∷ xs) (y ∷ ys) = eqb x y && sameNumbers xs ys
 
--- The places of a recording, from i on.
-abbrev pub places : ℕ → List ℕ → List ℕ
-places i [] = []
-places i (w ∷ ws) = i ∷ places (i + 1) ws
+abbrev pub sameSigned : ℤ → ℤ → Bool
+sameSigned (pos m) (pos n) = eqb m n
+sameSigned (pos m) (negsuc n) = false
+sameSigned (negsuc m) (pos n) = false
+sameSigned (negsuc m) (negsuc n) = eqb m n
+
+abbrev pub sameSignedNumbers : List ℤ → List ℤ → Bool
+sameSignedNumbers [] [] = true
+sameSignedNumbers [] (y ∷ ys) = false
+sameSignedNumbers (x ∷ xs) [] = false
+sameSignedNumbers (x ∷ xs) (y ∷ ys) = sameSigned x y && sameSignedNumbers xs ys
+
+-- A number below 0.
+abbrev pub minus : ℕ → ℤ
+minus n = negℤ (pos n)
 
 abbrev pub isEqual : EqualReply → Bool
 isEqual Equal = true
@@ -79,7 +93,8 @@ holds (planner text expected) = sameNumbers (verdictLine (textJudged (bytes text
 holds (inferred ws expected) = sameFields (replyFields (textJudged (textOf ws) .reply) (textJudged (textOf ws) .frames)) expected
 holds (declared list ws expected) = sameFields (replyFields (verdictUnder Declared (textOf list) ws) (length ws)) expected
 holds (committed guards ws expected) = sameNumbers (commits guards ws) expected
-holds (ordered guards ws expected) = sameNumbers (inSerialOrder guards ws (places 0 ws)) expected
+holds (ordered guards ws expected) = sameNumbers (orderedPlaces guards ws) expected
+holds (displaced guards ws expected) = sameSignedNumbers (displacements guards ws) expected
 holds (equal l r) = isEqual (equalReply l r)
 holds (different l r) = isDifferent (equalReply l r)
 
@@ -119,6 +134,8 @@ rows =
     -- commits 4 and 8; serial order by place 0 2 3 4 7 1 5 6 8 9
     ∷ committed inferredGuards caseC (4 ∷ 8 ∷ 4 ∷ 4 ∷ 4 ∷ 8 ∷ 8 ∷ 4 ∷ 8 ∷ 8 ∷ [])
     ∷ ordered inferredGuards caseC (0 ∷ 2 ∷ 3 ∷ 4 ∷ 7 ∷ 1 ∷ 5 ∷ 6 ∷ 8 ∷ 9 ∷ [])
+    -- displacements 0 4 -1 -1 -1 1 1 -3 0 0
+    ∷ displaced inferredGuards caseC (pos 0 ∷ pos 4 ∷ minus 1 ∷ minus 1 ∷ minus 1 ∷ pos 1 ∷ pos 1 ∷ minus 3 ∷ pos 0 ∷ pos 0 ∷ [])
     -- D, inferred: kind 4, locks all 64, begin and commit absent; declared, unguarded: reducible
     ∷ inferred (0x03000005 ∷ []) (fields 4 0 0 absent absent 0xFFFFFFFFFFFFFFFF)
     ∷ declared [] (0x03000005 ∷ []) (fields 0 1 0 absent absent 0)

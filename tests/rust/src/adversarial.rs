@@ -1,9 +1,9 @@
-//! Recordings and guard lists at the limits: nesting, locks, locks taken again, threads, reads,
-//! candidate sets. Places and lengths of a text that is written, and the fields of a verdict line,
-//! at theirs.
+//! Recordings and guard lists at the limits: nesting, locks, locks taken again, threads,
+//! displacements, reads, candidate sets. Places and lengths of a text that is written, and the
+//! fields of a verdict line, at theirs.
 
 use crate::random::{damage_text, Random, Recording};
-use crate::{Fields, VARIABLES};
+use crate::{Fields, MOST_REFUSAL, VARIABLES};
 
 pub const THREADS: u32 = 32;
 pub const LOCKS: u32 = 64;
@@ -294,6 +294,27 @@ pub fn alternation(random: &mut Random, blocks: usize, steps: usize) -> Recordin
     }
 }
 
+// Displacements.
+
+/// So many frames, at least 3, of which one moves as far as can be: a begin, with frames of other
+/// threads outside blocks up to its end; and one such frame, before the end of a block that has all
+/// others.
+pub fn furthest(count: usize) -> [Vec<u32>; 2] {
+    let (begin, end) = (word(BEGIN, 0, 0), word(END, 0, 0));
+    let other = |place| {
+        let operation = if place % 2 == 0 { ACQUIRE } else { RELEASE };
+        word(operation, 1 + place / 2 % (THREADS - 1), 0)
+    };
+    let others: Vec<u32> = (0..count as u32 - 2).map(other).collect();
+    // Inner begins and ends, and an acquire if need be: none of these commits.
+    let mut own = pairs((count - 3) / 2 * 2);
+    own.resize(count - 3, word(ACQUIRE, 0, 0));
+    [
+        [&[begin], &others[..], &[end]].concat(),
+        [&[begin], &own[..], &[word(ACQUIRE, 1, 1), end]].concat(),
+    ]
+}
+
 // Reads.
 
 /// So many frames of one variable: all threads but the last read it in turn, and the last one
@@ -449,8 +470,8 @@ pub fn random_room(random: &mut Random, bytes: usize) -> (usize, usize) {
 // Verdict lines.
 
 /// Kinds on both sides of each boundary.
-pub const EDGE_KINDS: [u8; 14] = [
-    0x00, 0x01, 0x02, 0x03, 0x04, 0x05, 0x7F, 0x80, 0x81, 0x91, 0x94, 0x95, 0xFE, 0xFF,
+pub const EDGE_KINDS: [u8; 15] = [
+    0x00, 0x01, 0x02, 0x03, 0x04, 0x05, 0x7F, 0x80, 0x81, 0x91, 0x94, 0x95, 0x96, 0xFE, 0xFF,
 ];
 pub const EDGE_PLACES: [u16; 7] = [0, 1, 0x0FFF, 0x1000, 0x1001, 0xFFFE, 0xFFFF];
 pub const EDGE_LOCKS: [u64; 6] = [0, 1, 6, 1 << 63, u64::MAX - 1, u64::MAX];
@@ -465,7 +486,7 @@ pub fn random_fields(random: &mut Random) -> Fields {
         kind: match random.below(4) {
             0 => random.pick(&EDGE_KINDS),
             1 => random.draw() as u8,
-            2 => random.between(0x81, 0x94) as u8,
+            2 => random.between(0x81, 0x80 + MOST_REFUSAL) as u8,
             _ => random.between(0x00, 0x04) as u8,
         },
         frame: place(random),

@@ -3,7 +3,7 @@
 
 use crate::holds::{has_inner_pair, shown, SHOWN};
 use crate::random::Random;
-use crate::{reads, Fields, FieldsOut, Refusal, ABSENT, LINE_BYTES, VARIABLES};
+use crate::{reads, Fields, FieldsOut, Refusal, ABSENT, LINE_BYTES, MOST_REFUSAL, VARIABLES};
 use std::fmt;
 
 /// Elements on both sides of each buffer, which no call may touch.
@@ -20,6 +20,8 @@ pub struct Implementation {
     pub equal: fn(&[u32], &[u32]) -> u64,
     pub serial_declared: fn(&[u8], &[u32], &mut [u32]) -> u64,
     pub serial_inferred: fn(&[u32], &mut [u32]) -> u64,
+    pub moves_declared: fn(&[u8], &[u32], &mut [i32]) -> u64,
+    pub moves_inferred: fn(&[u32], &mut [i32]) -> u64,
     pub write: fn(&[u32], &mut [u8], usize) -> u64,
     pub line_read: fn(&[u8], FieldsOut) -> u64,
     pub line_write: fn(Fields, &mut [u8]) -> u64,
@@ -35,6 +37,8 @@ pub const REFERENCE: Implementation = Implementation {
     equal: crate::equal,
     serial_declared: crate::serial_declared,
     serial_inferred: crate::serial_inferred,
+    moves_declared: crate::moves_declared,
+    moves_inferred: crate::moves_inferred,
     write: crate::write,
     line_read: crate::line_read,
     line_write: crate::line_write,
@@ -52,12 +56,14 @@ pub enum Call {
     Equal,
     SerialDeclared,
     SerialInferred,
+    MovesDeclared,
+    MovesInferred,
     Write,
     LineRead,
     LineWrite,
 }
 
-pub const CALLS: [Call; 11] = [
+pub const CALLS: [Call; 13] = [
     Call::Check,
     Call::Read,
     Call::Guards,
@@ -66,6 +72,8 @@ pub const CALLS: [Call; 11] = [
     Call::Equal,
     Call::SerialDeclared,
     Call::SerialInferred,
+    Call::MovesDeclared,
+    Call::MovesInferred,
     Call::Write,
     Call::LineRead,
     Call::LineWrite,
@@ -80,13 +88,15 @@ const NAMES: [&str; CALLS.len()] = [
     "equal",
     "serial declared",
     "serial inferred",
+    "moves declared",
+    "moves inferred",
     "write",
     "line read",
     "line write",
 ];
 
 /// Kinds and refusals that can occur, per call. Kind 0 of read, guards and line read: accepted; of
-/// equal: not equal, and 1: equal; of the serial orders, write and line write: written.
+/// equal: not equal, and 1: equal; of serial orders, displacements, write and line write: written.
 const POSSIBLE: [(&[usize], &[usize]); CALLS.len()] = [
     (&[0, 3, 4], &[1, 2, 4, 5, 6, 7, 8, 9, 10, 17, 20]),
     (&[0], &[1, 2, 3]),
@@ -96,6 +106,8 @@ const POSSIBLE: [(&[usize], &[usize]); CALLS.len()] = [
     (&[0, 1], &[2, 4, 5, 6, 7, 8, 9, 10, 20]),
     (&[0], &[1, 2, 4, 5, 6, 7, 8, 9, 10, 11, 12, 13, 14, 15, 20]),
     (&[0], &[2, 4, 5, 6, 7, 8, 9, 10, 13, 14, 15, 20]),
+    (&[0], &[1, 2, 4, 5, 6, 7, 8, 9, 10, 11, 12, 13, 14, 20, 21]),
+    (&[0], &[2, 4, 5, 6, 7, 8, 9, 10, 13, 14, 20, 21]),
     (&[0], &[2, 4, 5, 6, 7, 8, 9, 10, 19, 20]),
     (&[0], &[18]),
     (&[0], &[17, 18]),
@@ -125,8 +137,22 @@ impl Call {
         POSSIBLE[self as usize].1
     }
 
-    pub fn is_serial(self) -> bool {
+    /// The call for the serial order, of one for displacements.
+    fn serial(self) -> Option<Call> {
+        match self {
+            Call::MovesDeclared => Some(Call::SerialDeclared),
+            Call::MovesInferred => Some(Call::SerialInferred),
+            _ => None,
+        }
+    }
+
+    fn is_serial(self) -> bool {
         matches!(self, Call::SerialDeclared | Call::SerialInferred)
+    }
+
+    /// The serial order or the displacements are written.
+    pub fn orders(self) -> bool {
+        self.is_serial() || self.serial().is_some()
     }
 
     /// The reply is the kind of a verdict line.
@@ -137,6 +163,10 @@ impl Call {
     /// A recording is checked, and so its locks.
     pub fn checks_recording(self) -> bool {
         self.possible_refusals().contains(&20)
+    }
+
+    pub fn takes_list(self) -> bool {
+        self.possible_refusals().contains(&11)
     }
 
     fn writes_line(self) -> bool {
@@ -162,7 +192,7 @@ pub struct Case {
     /// Of the line that is written.
     pub fields: Fields,
     pub line_len: usize,
-    /// Also the length of the output of a serial order.
+    /// Also the length of the output of a serial order, and of the list of displacements.
     pub words_len: usize,
     pub sets_len: usize,
     /// The text that is written, and the place from which on.
@@ -177,6 +207,7 @@ pub struct Outcome {
     pub reply: u64,
     pub line: Vec<u8>,
     pub words: Vec<u32>,
+    pub moves: Vec<i32>,
     pub sets: Vec<u64>,
     pub text: Vec<u8>,
     pub numbers: Numbers,
@@ -296,11 +327,13 @@ impl Case {
         let call = self.call;
         let mut line = filled(random, call.writes_line(), self.line_len, |x| x as u8);
         let mut words = filled(random, call.writes_words(), self.words_len, |x| x as u32);
+        let moved = call.serial().is_some();
+        let mut moves = filled(random, moved, self.words_len, |x| x as i32);
         let mut sets = filled(random, call == Call::Inferred, self.sets_len, |x| x);
         let mut written = filled(random, call == Call::Write, self.text_len, |x| x as u8);
         let mut numbers = Numbers::filled(random);
         let (line_out, words_out, sets_out) = (slot(&mut line), slot(&mut words), slot(&mut sets));
-        let text_out = slot(&mut written);
+        let (moves_out, text_out) = (slot(&mut moves), slot(&mut written));
         let (text_in, frames_in, right_in) = (text.lent(), frames.lent(), right.lent());
         let Implementation {
             check,
@@ -311,6 +344,8 @@ impl Case {
             equal,
             serial_declared,
             serial_inferred,
+            moves_declared,
+            moves_inferred,
             write,
             line_read,
             line_write,
@@ -325,6 +360,8 @@ impl Case {
             Call::Equal => equal(frames_in, right_in),
             Call::SerialDeclared => serial_declared(text_in, frames_in, words_out),
             Call::SerialInferred => serial_inferred(frames_in, words_out),
+            Call::MovesDeclared => moves_declared(text_in, frames_in, moves_out),
+            Call::MovesInferred => moves_inferred(frames_in, moves_out),
             Call::Write => write(frames_in, text_out, self.place),
             Call::LineRead => line_read(text_in, numbers.lent()),
             Call::LineWrite => line_write(self.fields, line_out),
@@ -334,6 +371,7 @@ impl Case {
             reply,
             line,
             words,
+            moves,
             sets,
             text: written,
             numbers,
@@ -357,6 +395,12 @@ impl Case {
                     outcome.describe(other.name)
                 ));
             }
+            if !self.moves_agree(&outcome, other) {
+                return Err(format!(
+                    "NOT THE DISPLACEMENTS of its serial order\n{self}\n{}",
+                    outcome.describe(other.name)
+                ));
+            }
         }
         if self.call.is_serial() && expected.reply >> 32 == 0 {
             let written = expected.written();
@@ -377,6 +421,29 @@ impl Case {
                 Ok(expected)
             }
         }
+    }
+
+    /// Displacements add up to 0, lie below the length in both directions, and lead each word to
+    /// its place in the serial order of the same implementation. True of other calls and refusals.
+    fn moves_agree(&self, outcome: &Outcome, implementation: &Implementation) -> bool {
+        let Some(call) = self.call.serial() else {
+            return true;
+        };
+        if outcome.reply >> 32 != 0 {
+            return true;
+        }
+        let mut case = self.clone();
+        case.call = call;
+        let serial = case.run(implementation);
+        let moves = outcome.displacements();
+        let leads = |(place, (&by, word)): (usize, (&i32, &u32))| {
+            let to = place.checked_add_signed(by as isize);
+            by.unsigned_abs() < outcome.reply as u32
+                && to.and_then(|to| serial.written().get(to)) == Some(word)
+        };
+        serial.reply == outcome.reply
+            && moves.iter().map(|&by| i64::from(by)).sum::<i64>() == 0
+            && moves.iter().zip(&self.frames).enumerate().all(leads)
     }
 
     /// Whether what was written reads back, and what was read is written again; none where that is
@@ -450,6 +517,11 @@ impl Outcome {
         &self.words[MARGIN..][..self.reply as usize]
     }
 
+    /// There was no refusal.
+    pub fn displacements(&self) -> &[i32] {
+        &self.moves[MARGIN..][..self.reply as usize]
+    }
+
     /// The place of a violation or of a refusal.
     fn place(&self, call: Call) -> usize {
         if !call.replies_kind() {
@@ -470,9 +542,10 @@ impl Outcome {
         let line = self.line.escape_ascii();
         format!(
             "{name}: reply {reply:X}, input kept: {kept}\n  line with margins \"{line}\"\n  \
-             words with margins {:08X?}\n  sets with margins {:X?}\n  text with margins \"{}\"\n  \
-             numbers with margins {:X?}",
+             words with margins {:08X?}\n  moves with margins {:?}\n  sets with margins {:X?}\n  \
+             text with margins \"{}\"\n  numbers with margins {:X?}",
             self.words,
+            self.moves,
             self.sets,
             self.text.escape_ascii(),
             self.numbers
@@ -528,9 +601,9 @@ pub struct Tally {
     pub cases: usize,
     /// As in `possible_kinds`.
     pub kinds: [usize; 5],
-    pub refusals: [usize; 21],
+    pub refusals: [usize; MOST_REFUSAL + 1],
     /// Refusals of the right recording.
-    pub right_refusals: [usize; 21],
+    pub right_refusals: [usize; MOST_REFUSAL + 1],
     /// Of `kinds`, recordings with an inner acquire and its release, before the violation if there
     /// is one.
     pub inner: [usize; 5],
@@ -539,10 +612,10 @@ pub struct Tally {
     /// Violations of kind 1 or 4 with begin absent, begin alone, begin and commit.
     pub shapes: [usize; 3],
     /// Equal recordings in another order, unequal ones of one length, serial orders that are not
-    /// the recording.
+    /// the recording, or displacements other than 0.
     pub moved: [usize; 3],
-    /// Recordings near the limit of the length that are equal in another order, or have a serial
-    /// order that is not the recording.
+    /// Recordings near the limit of the length that are equal in another order, or have such a
+    /// serial order or displacements.
     pub long_moved: usize,
     /// As in `reads::SHOWN`.
     pub reads: [usize; reads::SHOWN.len()],
@@ -593,8 +666,11 @@ impl Tally {
             for (count, met) in self.reads.iter_mut().zip(shown) {
                 *count += usize::from(met);
             }
-        } else if case.call.is_serial() {
-            let moved = outcome.written() != case.frames;
+        } else if case.call.orders() {
+            let moved = match case.call.is_serial() {
+                true => outcome.written() != case.frames,
+                false => outcome.displacements().iter().any(|&by| by != 0),
+            };
             self.moved[2] += usize::from(moved);
             self.long_moved += usize::from(moved && case.frames.len() >= LONG);
         } else if kind == 1 || kind == 4 {
@@ -612,7 +688,7 @@ impl Tally {
             _ => case.frames.clone(),
         };
         let reply = match number {
-            0 => Ok(kind == 0 && (call.replies_kind() || call.is_serial())),
+            0 => Ok(kind == 0 && (call.replies_kind() || call.orders())),
             7 | 8 | 20 => Err(Refusal {
                 number: number as u8,
                 place,

@@ -14,6 +14,8 @@ pub const LIBRARY: Implementation = Implementation {
     equal,
     serial_declared,
     serial_inferred,
+    moves_declared,
+    moves_inferred,
     write,
     line_read,
     line_write,
@@ -58,6 +60,20 @@ extern "C" {
         words_len: usize,
         out: *mut u32,
         out_len: usize,
+    ) -> u64;
+    fn trace_moves_declared(
+        list: *const u8,
+        list_len: usize,
+        words: *const u32,
+        words_len: usize,
+        moves: *mut i32,
+        moves_len: usize,
+    ) -> u64;
+    fn trace_moves_inferred(
+        words: *const u32,
+        words_len: usize,
+        moves: *mut i32,
+        moves_len: usize,
     ) -> u64;
 }
 
@@ -152,6 +168,23 @@ pub fn serial_declared(list: &[u8], words: &[u32], out: &mut [u32]) -> u64 {
 
 pub fn serial_inferred(words: &[u32], out: &mut [u32]) -> u64 {
     unsafe { trace_serial_inferred(words.as_ptr(), words.len(), out.as_mut_ptr(), out.len()) }
+}
+
+pub fn moves_declared(list: &[u8], words: &[u32], moves: &mut [i32]) -> u64 {
+    unsafe {
+        trace_moves_declared(
+            list.as_ptr(),
+            list.len(),
+            words.as_ptr(),
+            words.len(),
+            moves.as_mut_ptr(),
+            moves.len(),
+        )
+    }
+}
+
+pub fn moves_inferred(words: &[u32], moves: &mut [i32]) -> u64 {
+    unsafe { trace_moves_inferred(words.as_ptr(), words.len(), moves.as_mut_ptr(), moves.len()) }
 }
 
 pub fn write(words: &[u32], text: &mut [u8], place: usize) -> u64 {

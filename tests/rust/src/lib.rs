@@ -21,6 +21,8 @@ const MOST_VARIABLE: u16 = 1023;
 const MOST_DEPTH: u32 = 15;
 const MOST_HOLDS: u32 = 15;
 const ABSENT: u16 = 0xFFFF;
+/// The greatest number of a refusal.
+pub const MOST_REFUSAL: usize = 21;
 /// Added to the number of a refusal of the right recording.
 const RIGHT_SIDE: u64 = 256;
 
@@ -331,6 +333,9 @@ fn judge(frames: &[Frame], guards: &mut Guards) -> Verdict {
     }
 }
 
+/// The guard of each variable that a list names; none if guards are inferred.
+type Declared = Option<BTreeMap<u16, u16>>;
+
 pub fn declared_verdict(frames: &[Frame], guards: &BTreeMap<u16, u16>) -> Verdict {
     judge(frames, &mut Guards::Declared(guards))
 }
@@ -346,6 +351,13 @@ pub fn inferred_verdict(frames: &[Frame]) -> (Verdict, [u64; VARIABLES]) {
         }
     }
     (verdict, sets)
+}
+
+fn verdict(frames: &[Frame], declared: &Declared) -> Verdict {
+    match declared {
+        Some(guards) => declared_verdict(frames, guards),
+        None => inferred_verdict(frames).0,
+    }
 }
 
 // Equality.
@@ -437,18 +449,20 @@ pub fn brute_equal(left: &[u32], right: &[u32]) -> bool {
     false
 }
 
-// Serial order.
+// Serial order and displacements.
 
 struct Unit {
     commit: Option<usize>,
     places: Vec<usize>,
 }
 
-/// The places of a reducible recording in serial order. Refusal 14.
-fn serial_places(
-    frames: &[Frame],
-    unprotected: impl Fn(u16) -> bool,
-) -> Result<Vec<usize>, Refusal> {
+/// The places of a sound recording in serial order. Refusals 13 and 14.
+fn serial_places(frames: &[Frame], declared: &Declared) -> Result<Vec<usize>, Refusal> {
+    if let Verdict::Violation(violation) = verdict(frames, declared) {
+        return refuse(13, violation.frame);
+    }
+    let guards = declared.as_ref();
+    let unprotected = |variable| guards.is_some_and(|guards| !guards.contains_key(&variable));
     let mut units = Vec::new();
     // Each thread's open block and its depth.
     let mut blocks: BTreeMap<u8, (Unit, u32)> = BTreeMap::new();
@@ -484,6 +498,15 @@ fn serial_places(
     }
     units.sort_by_key(|unit| unit.commit);
     Ok(units.into_iter().flat_map(|unit| unit.places).collect())
+}
+
+/// By place in the recording, given the places in serial order.
+fn displacements(places: &[usize]) -> Vec<i32> {
+    let mut moves = vec![0; places.len()];
+    for (to, &from) in places.iter().enumerate() {
+        moves[from] = to as i32 - from as i32;
+    }
+    moves
 }
 
 // The verdict line.
@@ -628,43 +651,46 @@ pub fn equal(left: &[u32], right: &[u32]) -> u64 {
     u64::from(projections(left, &left_frames) == projections(right, &right_frames))
 }
 
-/// Writes a sound recording's serial order. Refusals 13 to 15.
-fn write_serial(
+/// Writes what the places in serial order give for each frame. Without a list guards are inferred;
+/// an output that is too short has this refusal.
+fn write_each<T: Copy>(
+    list: Option<&[u8]>,
     words: &[u32],
-    frames: &[Frame],
-    verdict: Verdict,
-    unprotected: impl Fn(u16) -> bool,
-    out: &mut [u32],
-) -> Result<usize, Refusal> {
-    if let Verdict::Violation(violation) = verdict {
-        return refuse(13, violation.frame);
-    }
-    let places = serial_places(frames, unprotected)?;
-    if out.len() < words.len() {
-        return refuse(15, words.len());
-    }
-    for (to, place) in out.iter_mut().zip(places) {
-        *to = words[place];
-    }
-    Ok(words.len())
-}
-
-pub fn serial_declared(list: &[u8], words: &[u32], out: &mut [u32]) -> u64 {
+    out: &mut [T],
+    short: u8,
+    of_places: impl Fn(&[usize]) -> Vec<T>,
+) -> u64 {
     let mut written = || {
-        let guards = read_guards(list)?;
-        let frames = check_recording(words)?;
-        let verdict = declared_verdict(&frames, &guards);
-        let unprotected = |variable| !guards.contains_key(&variable);
-        write_serial(words, &frames, verdict, unprotected, out)
+        let declared = list.map(read_guards).transpose()?;
+        let places = serial_places(&check_recording(words)?, &declared)?;
+        if out.len() < words.len() {
+            return refuse(short, words.len());
+        }
+        out[..words.len()].copy_from_slice(&of_places(&places));
+        Ok(words.len())
     };
     packed(written())
 }
 
+fn serial(list: Option<&[u8]>, words: &[u32], out: &mut [u32]) -> u64 {
+    let in_order = |places: &[usize]| places.iter().map(|&place| words[place]).collect();
+    write_each(list, words, out, 15, in_order)
+}
+
+pub fn serial_declared(list: &[u8], words: &[u32], out: &mut [u32]) -> u64 {
+    serial(Some(list), words, out)
+}
+
 pub fn serial_inferred(words: &[u32], out: &mut [u32]) -> u64 {
-    packed(check_recording(words).and_then(|frames| {
-        let verdict = inferred_verdict(&frames).0;
-        write_serial(words, &frames, verdict, |_| false, out)
-    }))
+    serial(None, words, out)
+}
+
+pub fn moves_declared(list: &[u8], words: &[u32], moves: &mut [i32]) -> u64 {
+    write_each(Some(list), words, moves, 21, displacements)
+}
+
+pub fn moves_inferred(words: &[u32], moves: &mut [i32]) -> u64 {
+    write_each(None, words, moves, 21, displacements)
 }
 
 pub fn write(words: &[u32], text: &mut [u8], place: usize) -> u64 {

@@ -1,7 +1,7 @@
-//! A plain safe checker with the behaviour of `trace_check`, `trace_equal`, the serial calls,
-//! `trace_write` and `trace_line_read`, for the benchmark. Text to words, soundness, verdict and
-//! line are separate passes, and so are soundness and text; equality and serial orders take one
-//! more over places linked to lists. No heap, no unsafe.
+//! A plain safe checker with the behaviour of `trace_check`, `trace_equal`, the serial calls, those
+//! for displacements, `trace_write` and `trace_line_read`, for the benchmark. Text to words,
+//! soundness, verdict and line are separate passes, and so are soundness and text; equality, serial
+//! orders and displacements take one more over places linked to lists. No heap, no unsafe.
 
 use crate::{Fields, FieldsOut};
 
@@ -342,18 +342,45 @@ enum Access {
     Wrong,
 }
 
-/// The words are a sound recording. Refusals 13 to 15.
-fn write_serial(
+/// The first place of the unit that commits here, and the next place of the same unit.
+struct Units {
+    first: [u16; MOST_FRAMES],
+    next: [u16; MOST_FRAMES],
+}
+
+impl Units {
+    /// All places in serial order.
+    fn places(&self) -> impl Iterator<Item = usize> + '_ {
+        let mut units = self.first.iter().copied().filter(|&place| place != ABSENT);
+        let mut next = ABSENT;
+        std::iter::from_fn(move || {
+            if next == ABSENT {
+                next = units.next()?;
+            }
+            let place = usize::from(next);
+            next = self.next[place];
+            Some(place)
+        })
+    }
+}
+
+/// The words are a sound recording. Refusals 13 and 14, and one of an output that is too short.
+#[inline(always)]
+fn write_order<T>(
     words: &[u32],
-    out: &mut [u32],
+    out: &mut [T],
+    short: u8,
+    write: impl Fn(&mut [T], &Units),
     mut access: impl FnMut(&Thread, usize) -> Access,
 ) -> Result<usize, Refusal> {
     let mut threads = [Thread::START; THREADS];
     let mut holds = [0u8; LOCKS];
     let mut last = [0u16; THREADS];
-    // The first place of the unit that commits here, and the next place of the same unit.
-    let mut first = [ABSENT; MOST_FRAMES];
-    let mut next = [ABSENT; MOST_FRAMES];
+    let mut units = Units {
+        first: [ABSENT; MOST_FRAMES],
+        next: [ABSENT; MOST_FRAMES],
+    };
+    let Units { first, next } = &mut units;
     for (place, &word) in words.iter().enumerate() {
         let number = (word >> 16 & 31) as usize;
         let thread = &mut threads[number];
@@ -415,17 +442,9 @@ fn write_serial(
         return refuse(14, usize::from(begin));
     }
     let Some(out) = out.get_mut(..words.len()) else {
-        return refuse(15, words.len());
+        return refuse(short, words.len());
     };
-    let mut places = first.iter().copied().filter(|&place| place != ABSENT);
-    let mut place = ABSENT;
-    for to in out {
-        if place == ABSENT {
-            place = places.next().unwrap_or(0);
-        }
-        *to = words[usize::from(place)];
-        place = next[usize::from(place)];
-    }
+    write(out, &units);
     Ok(words.len())
 }
 
@@ -455,22 +474,35 @@ fn read_guards(list: &[u8]) -> Result<[u8; VARIABLES], Refusal> {
     Ok(guards)
 }
 
-pub fn serial_declared(list: &[u8], words: &[u32], out: &mut [u32]) -> u64 {
+fn write_declared<T>(
+    list: &[u8],
+    words: &[u32],
+    out: &mut [T],
+    short: u8,
+    write: impl Fn(&mut [T], &Units),
+) -> u64 {
     packed(read_guards(list).and_then(|guards| {
         check_words(words)?;
-        write_serial(words, out, |thread, variable| match guards[variable] {
-            NO_GUARD if thread.commit == ABSENT => Access::Commits,
-            NO_GUARD => Access::Wrong,
-            guard if thread.held >> guard & 1 == 1 => Access::Free,
-            _ => Access::Wrong,
+        write_order(words, out, short, write, |thread, variable| {
+            match guards[variable] {
+                NO_GUARD if thread.commit == ABSENT => Access::Commits,
+                NO_GUARD => Access::Wrong,
+                guard if thread.held >> guard & 1 == 1 => Access::Free,
+                _ => Access::Wrong,
+            }
         })
     }))
 }
 
-pub fn serial_inferred(words: &[u32], out: &mut [u32]) -> u64 {
+fn write_inferred<T>(
+    words: &[u32],
+    out: &mut [T],
+    short: u8,
+    write: impl Fn(&mut [T], &Units),
+) -> u64 {
     packed(check_words(words).and_then(|()| {
         let mut sets = [u64::MAX; VARIABLES];
-        write_serial(words, out, |thread, variable| {
+        write_order(words, out, short, write, |thread, variable| {
             sets[variable] &= thread.held;
             match sets[variable] {
                 0 => Access::Wrong,
@@ -478,6 +510,37 @@ pub fn serial_inferred(words: &[u32], out: &mut [u32]) -> u64 {
             }
         })
     }))
+}
+
+/// Writes the words in serial order.
+fn serial_words(words: &[u32]) -> impl Fn(&mut [u32], &Units) + '_ {
+    |out, units| {
+        for (to, place) in out.iter_mut().zip(units.places()) {
+            *to = words[place];
+        }
+    }
+}
+
+pub fn serial_declared(list: &[u8], words: &[u32], out: &mut [u32]) -> u64 {
+    write_declared(list, words, out, 15, serial_words(words))
+}
+
+pub fn serial_inferred(words: &[u32], out: &mut [u32]) -> u64 {
+    write_inferred(words, out, 15, serial_words(words))
+}
+
+fn displacements(moves: &mut [i32], units: &Units) {
+    for (to, from) in (0..moves.len()).zip(units.places()) {
+        moves[from] = to as i32 - from as i32;
+    }
+}
+
+pub fn moves_declared(list: &[u8], words: &[u32], moves: &mut [i32]) -> u64 {
+    write_declared(list, words, moves, 21, displacements)
+}
+
+pub fn moves_inferred(words: &[u32], moves: &mut [i32]) -> u64 {
+    write_inferred(words, moves, 21, displacements)
 }
 
 #[inline(always)]

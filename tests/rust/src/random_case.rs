@@ -36,9 +36,9 @@ fn long_plan(random: &mut Random, unprotected: usize) -> Plan {
 
 pub fn random_recording(random: &mut Random, call: Call, long: bool) -> random::Recording {
     // Unprotected variables belong to declared guards; elsewhere they are soon a violation.
-    let unprotected = match call {
-        Call::Guards | Call::Declared | Call::SerialDeclared => random.pick(&[0, 100, 300, 1000]),
-        _ => random.pick(&[0, 0, 0, 0, 0, 100]),
+    let unprotected = match call.takes_list() {
+        true => random.pick(&[0, 100, 300, 1000]),
+        false => random.pick(&[0, 0, 0, 0, 0, 100]),
     };
     let plan = if long {
         long_plan(random, unprotected)
@@ -96,10 +96,10 @@ pub fn exact_list(random: &mut Random, guards: &[(u32, Option<u32>)]) -> Vec<u8>
     text_of_words(&words)
 }
 
-/// A recording for equality and serial orders: most are closed and sound.
+/// A recording for equality, serial orders and displacements: most are closed and sound.
 fn random_units(random: &mut Random, call: Call, long: bool) -> random::Recording {
     if !long && random.chance(500) {
-        let unprotected = call == Call::SerialDeclared && random.chance(700);
+        let unprotected = call.takes_list() && random.chance(700);
         let mut units = random.pick(&[3, 10, 30]);
         units = random.between(0, units);
         let mut made = random::interleaved(random, units, unprotected);
@@ -219,9 +219,9 @@ pub fn random_case(random: &mut Random, call: Call, long: bool) -> Case {
         }
         Call::Inferred => case.frames = random_recording(random, call, long).words,
         Call::Equal => (case.frames, case.right) = random_pair(random, long),
-        Call::SerialDeclared | Call::SerialInferred => {
+        Call::SerialDeclared | Call::SerialInferred | Call::MovesDeclared | Call::MovesInferred => {
             let made = random_units(random, call, long);
-            if call == Call::SerialDeclared {
+            if call.takes_list() {
                 case.text = match random.below(10) {
                     0 => Vec::new(),
                     1..4 => random_list(random, &made.guards),

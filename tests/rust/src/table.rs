@@ -2,13 +2,13 @@
 
 use crate::case::{Call, Tally, CALLS, EDGES};
 use crate::holds::SHOWN;
-use crate::reads;
+use crate::{reads, MOST_REFUSAL};
 
 /// A tally for each call.
 pub type Tallies = [Tally; CALLS.len()];
 
-/// What an answer is counted as. Lines and lists are accepted; serial orders, texts and verdict
-/// lines written.
+/// What an answer is counted as. Lines and lists are accepted; serial orders, displacements, texts
+/// and verdict lines written.
 #[derive(Clone, Copy, Debug)]
 pub enum Answer {
     Kind(usize),
@@ -55,7 +55,7 @@ impl Column {
             }
             Answer::Written => {
                 let writes = matches!(call, Call::Write | Call::LineWrite);
-                kind(call.is_serial() || writes, 0)
+                kind(call.orders() || writes, 0)
             }
             Answer::Equal => kind(call == Call::Equal, 1),
             Answer::Different => kind(call == Call::Equal, 0),
@@ -112,7 +112,7 @@ pub fn print_table(tallies: &Tallies) -> bool {
     row("written", Answer::Written);
     row("equal", Answer::Equal);
     row("different", Answer::Different);
-    for number in 1..21 {
+    for number in 1..=MOST_REFUSAL {
         row(&format!("refusal {number}"), Answer::Refusal(number));
     }
     complete
@@ -121,10 +121,11 @@ pub fn print_table(tallies: &Tallies) -> bool {
 /// Answers in which frames have moved; false if there are none.
 pub fn print_moved(tallies: &Tallies) -> bool {
     let mut complete = true;
-    for call in [Call::Equal, Call::SerialDeclared, Call::SerialInferred] {
+    let moving = |call: &Call| *call == Call::Equal || call.orders();
+    for call in CALLS.into_iter().filter(moving) {
         let tally = &tallies[call as usize];
-        let [equal, _, serial] = tally.moved;
-        let (moved, long) = (equal + serial, tally.long_moved);
+        let [equal, _, ordered] = tally.moved;
+        let (moved, long) = (equal + ordered, tally.long_moved);
         println!(
             "{}: {moved} in another order, {long} of these long",
             call.name()

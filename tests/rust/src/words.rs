@@ -1,10 +1,9 @@
 //! What `tracetool` prints, by docs/TOOL.md and docs/FORMAT.md alone.
 
 use crate::{
-    check_recording, declared_verdict, equal, inferred_verdict, read_guards, read_text,
-    serial_places, verdict_line, Fields, Frame, Refusal, Verdict, Violation, ABSENT,
+    check_recording, displacements, equal, read_guards, read_text, serial_places, verdict_line,
+    Declared, Fields, Frame, Refusal, Verdict, Violation, ABSENT,
 };
-use std::collections::BTreeMap;
 
 pub const RECORDING: &str = "the recording";
 pub const GUARD_LIST: &str = "the guard list";
@@ -36,11 +35,11 @@ fn command(words: &[&[u8]], files: Files) -> Result<String, Vec<u8>> {
         [b"equal", ..] => return Err(b"use: tracetool equal LEFT RIGHT".to_vec()),
         [b"line", line] => return Ok(explain_line(line)),
         [b"line", ..] => return Err(b"use: tracetool line LINE".to_vec()),
-        [b"verdict" | b"serial" | b"explain", recording] => (recording, None),
-        [b"verdict" | b"serial" | b"explain", recording, b"--guards", list] => {
+        [b"verdict" | b"serial" | b"moves" | b"explain", recording] => (recording, None),
+        [b"verdict" | b"serial" | b"moves" | b"explain", recording, b"--guards", list] => {
             (recording, Some(content(list, files)?))
         }
-        [command @ (b"verdict" | b"serial" | b"explain"), ..] => {
+        [command @ (b"verdict" | b"serial" | b"moves" | b"explain"), ..] => {
             let operands = b" RECORDING [--guards LIST]";
             return Err([b"use: tracetool ", *command, operands].concat());
         }
@@ -50,6 +49,7 @@ fn command(words: &[&[u8]], files: Files) -> Result<String, Vec<u8>> {
     let printed = match words[0] {
         b"verdict" => verdict,
         b"serial" => serial,
+        b"moves" => moves,
         _ => explain,
     };
     Ok(printed(&recording, list.as_deref()))
@@ -91,8 +91,7 @@ fn sound(text: &[u8], file: &'static str) -> Result<(Vec<u32>, Vec<Frame>), Refu
 struct Judged {
     words: Vec<u32>,
     frames: Vec<Frame>,
-    /// None if the guards are inferred.
-    guards: Option<BTreeMap<u16, u16>>,
+    guards: Declared,
     verdict: Verdict,
 }
 
@@ -100,10 +99,7 @@ fn judge(recording: &[u8], list: Option<&[u8]>) -> Result<Judged, Refused> {
     let guards = list.map(read_guards).transpose();
     let guards = guards.map_err(|refusal| refused(refusal, GUARD_LIST, &[]))?;
     let (words, frames) = sound(recording, RECORDING)?;
-    let verdict = match &guards {
-        Some(guards) => declared_verdict(&frames, guards),
-        None => inferred_verdict(&frames).0,
-    };
+    let verdict = crate::verdict(&frames, &guards);
     Ok(Judged {
         words,
         frames,
@@ -117,23 +113,34 @@ fn verdict(recording: &[u8], list: Option<&[u8]>) -> String {
     verdict_line(verdict.map_err(|refused| refused.refusal)).1
 }
 
-fn serial_words(recording: &[u8], list: Option<&[u8]>) -> Result<Vec<u32>, Refused> {
+/// The words, and their places in serial order.
+fn ordered(recording: &[u8], list: Option<&[u8]>) -> Result<(Vec<u32>, Vec<usize>), Refused> {
     let judged = judge(recording, list)?;
-    if let Verdict::Violation(Violation { frame: place, .. }) = judged.verdict {
-        let refusal = Refusal { number: 13, place };
-        return Err(refused(refusal, RECORDING, &judged.words));
-    }
-    let declared = judged.guards.as_ref();
-    let unprotected = |variable| declared.is_some_and(|guards| !guards.contains_key(&variable));
-    match serial_places(&judged.frames, unprotected) {
-        Ok(places) => Ok(places.iter().map(|&place| judged.words[place]).collect()),
+    match serial_places(&judged.frames, &judged.guards) {
+        Ok(places) => Ok((judged.words, places)),
         Err(refusal) => Err(refused(refusal, RECORDING, &judged.words)),
     }
 }
 
 fn serial(recording: &[u8], list: Option<&[u8]>) -> String {
-    match serial_words(recording, list) {
-        Ok(words) => words.iter().map(|word| format!("{word:08X}\n")).collect(),
+    match ordered(recording, list) {
+        Ok((words, places)) => {
+            let line = |&place: &usize| format!("{:08X}\n", words[place]);
+            places.iter().map(line).collect()
+        }
+        Err(refused) => refusal_text(&refused),
+    }
+}
+
+fn moves(recording: &[u8], list: Option<&[u8]>) -> String {
+    match ordered(recording, list) {
+        Ok((words, places)) => {
+            let line = |(word, by)| match by {
+                0 => format!("0 {word:08X}\n"),
+                _ => format!("{by:+} {word:08X}\n"),
+            };
+            words.iter().zip(displacements(&places)).map(line).collect()
+        }
         Err(refused) => refusal_text(&refused),
     }
 }
@@ -357,6 +364,9 @@ fn refusal_text(refused: &Refused) -> String {
         19 => format!("the text has fewer than {place} bytes from the given place on; lend them."),
         20 => format!(
             "{frame} takes a lock that {holder} holds 15 times already; hold it at most 15 times."
+        ),
+        21 => format!(
+            "the list of displacements has fewer than {place} numbers; lend one for each frame."
         ),
         _ => format!("which this check does not give; its place is {place}."),
     };

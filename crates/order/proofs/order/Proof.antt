@@ -1,6 +1,6 @@
 use mathlib.Core.Path.{sym, ap, _∙_}
 use Rattle.guards.specs.declared.GuardsRead.{GuardsRead}
-use Rattle.order.specs.Order.{orderUnder, outUnder, orderOut}
+use Rattle.order.specs.Order.{replyUnder, outUnder, orderOut}
 use borrow.Author.Needs.{needs}
 use Rattle.order.proofs.order.Statement.{statement}
 use Rattle.order.proofs.order.Tie as tie
@@ -18,7 +18,7 @@ list-refused-requires : tie.Need-list-refused-requires
 list-refused-requires c κs = search needs
 
 returns : tie.Need-returns
-unfolding orderUnder outUnder
+unfolding replyUnder outUnder
 returns c =
     let told = c .before .enum-told2 .given .1 in
     let q = sym (ap (λ (x : GuardsRead). x .reply) (c .before .before .before .guards-under .ensures)) ∙ told in
@@ -31,7 +31,7 @@ same-length : tie.Need-same-length
 same-length c = search needs
 
 returns-2 : tie.Need-returns-2
-unfolding orderUnder outUnder orderOut
+unfolding replyUnder outUnder orderOut
 returns-2 c =
     let q = sym (ap (λ (x : GuardsRead). x .reply) (c .before .before .before .before .before .before .before .before .guards-under .ensures)) ∙ c .before .before .before .before .before .before .enum-told .given .1 in
     (rw (q, ← c .before .before .before .before .before .before .before .before .guards-under .ensures) (c .before .before .under-guards .ensures .0), rw (q, ← c .before .before .before .before .before .before .before .before .guards-under .ensures) (c .before .before .under-guards .ensures .1))

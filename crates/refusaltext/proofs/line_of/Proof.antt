@@ -1,6 +1,5 @@
--- The number less 1, the number and 13, or 24.
-use borrow.Author.Tests.{lt-ltb, le-ltb}
-use native.Mathlib.Omega.{arith}
+-- The number less 1, the number and 14, or 25.
+use borrow.Author.Tests.{eq-eqb, ne-eqb, lt-ltb, le-ltb}
 use Rattle.refusaltext.proofs.Sentences.{refusal-numbered}
 use borrow.Author.Needs.{needs}
 use Rattle.refusaltext.proofs.line_of.Statement.{statement}
@@ -28,16 +27,16 @@ returns-3 : tie.Need-returns-3
 returns-3 c =
     rw (c .before .before .if1 .left, ← c .before .before .before .refusal-number .ensures, le-ltb _ _ (c .before .if2 .left), lt-ltb _ _ (c .if3 .taken))
 
+returns-4 : tie.Need-returns-4
+returns-4 c =
+    rw (c .before .before .before .if1 .left, ← c .before .before .before .before .refusal-number .ensures, le-ltb _ _ (c .before .before .if2 .left), le-ltb _ _ (c .before .if3 .left), eq-eqb _ _ (c .if4 .taken))
+
 sub-result-3 : tie.Need-sub-result-3
 sub-result-3 c = search needs
 
-returns-4 : tie.Need-returns-4
-returns-4 c =
-    rw (c .before .before .before .if1 .left, ← c .before .before .before .before .refusal-number .ensures, le-ltb _ _ (c .before .before .if2 .left), le-ltb _ _ (c .before .if3 .left), lt-ltb _ _ (c .if4 .taken))
-
 returns-5 : tie.Need-returns-5
 returns-5 c =
-    rw (c .before .before .before .if1 .left, ← c .before .before .before .before .refusal-number .ensures, le-ltb _ _ (c .before .before .if2 .left), le-ltb _ _ (c .before .if3 .left), le-ltb _ _ (c .if4 .left))
+    rw (c .before .before .before .if1 .left, ← c .before .before .before .before .refusal-number .ensures, le-ltb _ _ (c .before .before .if2 .left), le-ltb _ _ (c .before .if3 .left), ne-eqb _ _ (c .if4 .left))
 
 pub line-of-spec : {M : Type 1} → statement M
 line-of-spec =
@@ -50,6 +49,6 @@ line-of-spec =
     returns-2
     add-result
     returns-3
-    sub-result-3
     returns-4
+    sub-result-3
     returns-5)

@@ -39,7 +39,7 @@ part-write-unit-end c = search needs
 
 write-unit-requires : tie.Need-write-unit-requires
 write-unit-requires c κs =
-    (c .before .before .before .before .before .before .pre .0, lent-fits (unitOf (c .before .before .before .before .before .before .args .words .now) (c .before .before .start .given .0 .0) (c .before .before .before .before .before .before .args .t)) (c .before .before .before .before .before .before .args .out .now) (c .before .before .before .before .before .before .args .at) (rw (c .before .before .start .given .1) at (c .before .before .before .before .before .before .pre .1)))
+    (c .before .before .before .before .before .before .pre .0, lent-fits (unitOf (c .before .before .before .before .before .before .args .words .now) (c .before .before .before .before .before .before .args .words .now) (c .before .before .start .given .0 .0) (c .before .before .before .before .before .before .args .t)) (c .before .before .before .before .before .before .args .out .now) (c .before .before .before .before .before .before .args .at) (rw (c .before .before .start .given .1) at (c .before .before .before .before .before .before .pre .1)))
 
 add-result : tie.Need-add-result
 add-result c =
@@ -51,7 +51,7 @@ same-length c = search needs
 
 returns-2 : tie.Need-returns-2
 returns-2 c =
-    let u = unitOf (c .before .before .before .before .before .before .before .before .before .args .words .now) (c .before .before .before .before .before .start .given .0 .0) (c .before .before .before .before .before .before .before .before .before .args .t) in
+    let u = unitOf (c .before .before .before .before .before .before .before .before .before .args .words .now) (c .before .before .before .before .before .before .before .before .before .args .words .now) (c .before .before .before .before .before .start .given .0 .0) (c .before .before .before .before .before .before .before .before .before .args .t) in
     rw (c .before .before .before .before .before .start .given .1) (ap (λ m. c .before .before .before .before .before .before .before .before .before .args .at + m) (c .before .before .write-unit .ensures .0), lent-part u (c .before .before .before .before .before .before .before .before .before .args .out .now) (c .before .before .before .before .before .before .before .before .before .args .at) (length u) (c .before .before .write-unit .ensures .1))
 
 pub write-at-spec : {M : Type 1} → statement M

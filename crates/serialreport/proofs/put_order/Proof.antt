@@ -54,7 +54,7 @@ returns c =
     let a = c .before .before .before .before .before .before .before .before .before .before .before .before .before .before .args in
     let r = c .before .before .before .before .before .before .before .before .before .order in
     let w = words-ordered (a .j) (a .list .now) (a .words .now) (replicate mostFrames 0) (r .ensures .0) (r .ensures .1) (g .1) in
-    rw (sym (r .ensures .0) ∙ g .1, ← w .1) (c .before .before .put-words .ensures)
+    rw (sym (r .ensures .0) ∙ g .1, ← w .2) (c .before .before .put-words .ensures)
 
 same-length-2 : tie.Need-same-length-2
 same-length-2 c = search needs

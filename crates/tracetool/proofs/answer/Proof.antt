@@ -15,8 +15,8 @@ use Rattle.tracetool.proofs.answer.Tie as tie
 inside : {b t b' o : List ℕ} {p n : ℕ} → Put b 0 t b' p → o ≡ b' → n ≡ p → n ≤ length o
 inside x e f = rw (e, f) (put-within x (omega arith))
 
-room-requires : tie.Need-room-requires
-room-requires c κs = search needs
+answer-room-requires : tie.Need-answer-room-requires
+answer-room-requires c κs = search needs
 
 enum-told : tie.Need-enum-told
 enum-told c = search needs
@@ -39,6 +39,15 @@ serial-report-requires c κs = search needs
 enum-told-3 : tie.Need-enum-told-3
 enum-told-3 c = search needs
 
+slice-aggregate-moves-report : tie.Need-slice-aggregate-moves-report
+slice-aggregate-moves-report c = search needs
+
+moves-report-requires : tie.Need-moves-report-requires
+moves-report-requires c κs = search needs
+
+enum-told-4 : tie.Need-enum-told-4
+enum-told-4 c = search needs
+
 slice-aggregate-equal-report : tie.Need-slice-aggregate-equal-report
 slice-aggregate-equal-report c = search needs
 
@@ -59,7 +68,9 @@ array-share-prefix-out c =
     (λ w. let e = w .3 .ensures in inside (record { place = e .0; contents = e .1 }) (w .5) (w .6))
     (⊎-elim
     (λ w. let e = w .3 .ensures in inside (record { place = e .0; contents = e .1 }) (w .5) (w .6))
-    (λ w. let e = w .2 .ensures in inside (record { place = e .0; contents = e .1 }) (w .4) (w .5))))
+    (⊎-elim
+    (λ w. let e = w .3 .ensures in inside (record { place = e .0; contents = e .1 }) (w .5) (w .6))
+    (λ w. let e = w .2 .ensures in inside (record { place = e .0; contents = e .1 }) (w .4) (w .5)))))
     (c .match .came)
 
 slice-aggregate-print : tie.Need-slice-aggregate-print
@@ -75,7 +86,7 @@ pub answer-spec : {M : Type 1} → statement M
 answer-spec =
     tie.close
     (tie.spec
-    room-requires
+    answer-room-requires
     enum-told
     slice-aggregate-verdict-report
     verdict-report-requires
@@ -83,6 +94,9 @@ answer-spec =
     slice-aggregate-serial-report
     serial-report-requires
     enum-told-3
+    slice-aggregate-moves-report
+    moves-report-requires
+    enum-told-4
     slice-aggregate-equal-report
     equal-report-requires
     slice-aggregate-explain-report

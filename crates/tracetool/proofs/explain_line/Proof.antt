@@ -13,8 +13,8 @@ slice-aggregate-arg c = search needs
 arg-requires : tie.Need-arg-requires
 arg-requires c κs = search needs
 
-room-requires : tie.Need-room-requires
-room-requires c κs = search needs
+answer-room-requires : tie.Need-answer-room-requires
+answer-room-requires c κs = search needs
 
 array-share-prefix-word : tie.Need-array-share-prefix-word
 array-share-prefix-word c = search needs
@@ -48,7 +48,7 @@ explain-line-spec =
     (tie.spec
     slice-aggregate-arg
     arg-requires
-    room-requires
+    answer-room-requires
     array-share-prefix-word
     slice-aggregate-line-report
     slice-aggregate-line-report-2

@@ -7,20 +7,20 @@ use lib.ListN.{length}
 use Rattle.laws.proofs.Written.{written-whole}
 use Rattle.frame.proofs.Laws.{decoded-in-range}
 use Rattle.soundness.proofs.Laws.{sound-fits, sound-not-bad}
-use Rattle.walk.proofs.Walks.{WalkInv, walk-begins, walk-done, counts-fit, depths-fit, unit-room, walk-writes}
+use Rattle.walk.proofs.Walks.{OrderInv, order-begins, order-done, counts-fit, depths-fit, unit-room, order-next}
 use Rattle.walk.proofs.write_order.Statement.{statement}
 use Rattle.walk.proofs.write_order.Tie as tie
 
 abbrev Inv-loop : tie.InvT-loop
 Inv-loop words guards out₀ counts₀ depths₀ starts₀ committed₀ at₀ i₀ out counts depths starts committed at i =
-    WalkInv words guards out₀ out counts depths starts committed at i
+    OrderInv words guards out₀ out counts depths starts committed at i
 
 abbrev μ-loop : tie.MeasureT-loop
 μ-loop words guards out₀ counts₀ depths₀ starts₀ committed₀ at₀ i₀ out counts depths starts committed at i =
     length words - i
 
 loop-holds : tie.Need-loop-holds Inv-loop μ-loop
-loop-holds c = walk-begins _ _ _
+loop-holds c = order-begins _ _ _
 
 mul-decode : tie.Need-mul-decode Inv-loop μ-loop
 mul-decode c = search needs
@@ -58,7 +58,7 @@ cast-visit c =
 visit-requires : tie.Need-visit-requires Inv-loop μ-loop
 visit-requires c κs =
     let k = sound-fits (c .before .before .before .before .before .before .before .before .before .before .before .before .before .args .words .now) (c .before .before .before .before .before .before .before .before .before .before .before .before .before .pre .0) in
-    (decoded-in-range _ _ (sym (c .before .before .before .before .before .before .before .decode .ensures) ∙ c .before .before .before .before .before .d .given .1), (counts-fit (c .before .before .before .before .before .before .before .before .before .before .loop .inv) (c .before .before .before .before .before .before .before .before .before .loop-test .taken) k, depths-fit (c .before .before .before .before .before .before .before .before .before .before .loop .inv) (c .before .before .before .before .before .before .before .before .before .loop-test .taken) k))
+    (decoded-in-range _ _ (sym (c .before .before .before .before .before .before .before .decode .ensures) ∙ c .before .before .before .before .before .d .given .1), (counts-fit (c .before .before .before .before .before .before .before .before .before .before .loop .inv .stands) (c .before .before .before .before .before .before .before .before .before .loop-test .taken) k, depths-fit (c .before .before .before .before .before .before .before .before .before .before .loop .inv .stands) (c .before .before .before .before .before .before .before .before .before .loop-test .taken) k))
 
 write-at-requires : tie.Need-write-at-requires Inv-loop μ-loop
 write-at-requires c κs =
@@ -75,13 +75,13 @@ loop-less c =
 loop-again : tie.Need-loop-again Inv-loop μ-loop
 loop-again c =
     let n = c .before .before .write-at .ensures .0 in
-    walk-writes (c .before .before .before .before .before .before .before .before .before .before .before .before .before .before .before .before .loop .inv) (c .before .before .before .before .before .before .before .before .before .before .before .before .before .before .before .loop-test .taken) (sym (c .before .before .before .before .before .before .before .before .before .before .before .before .before .decode .ensures) ∙ c .before .before .before .before .before .before .before .before .before .before .before .d .given .1) (c .before .before .before .before .before .visit .ensures .0) (c .before .before .before .before .before .before .before .before .before .before .before .before .before .before .before .before .before .before .before .pre .1) (c .before .before .before .before .before .visit .ensures .1) n (rw (← n) at (c .before .before .write-at .ensures .1))
+    order-next (c .before .before .before .before .before .before .before .before .before .before .before .before .before .before .before .before .loop .inv) (c .before .before .before .before .before .before .before .before .before .before .before .before .before .before .before .loop-test .taken) (sym (c .before .before .before .before .before .before .before .before .before .before .before .before .before .decode .ensures) ∙ c .before .before .before .before .before .before .before .before .before .before .before .d .given .1) (c .before .before .before .before .before .visit .ensures .0) (c .before .before .before .before .before .before .before .before .before .before .before .before .before .before .before .before .before .before .before .pre .1) (c .before .before .before .before .before .visit .ensures .1) n (rw (← n) at (c .before .before .write-at .ensures .1))
 
 same-length-2 : tie.Need-same-length-2 Inv-loop μ-loop
 same-length-2 c = c .before .loop .inv .written .long
 
 returns-2 : tie.Need-returns-2 Inv-loop μ-loop
-returns-2 c = (refl, written-whole (walk-done (c .before .loop .inv) (c .loop-test .left)))
+returns-2 c = (refl, written-whole (order-done (c .before .loop .inv) (c .loop-test .left)))
 
 pub write-order-spec : {M : Type 1} → statement M
 write-order-spec =

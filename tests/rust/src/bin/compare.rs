@@ -4,7 +4,8 @@
 
 use std::process::exit;
 use trace_tests::adversarial::{
-    near_lines, readers, rooms, word, EDGE_KINDS, EDGE_PLACES, READ, THREADS, WRITE,
+    furthest, near_lines, readers, rooms, word, ACQUIRE, BEGIN, EDGE_KINDS, EDGE_PLACES, END, READ,
+    RELEASE, THREADS, WRITE,
 };
 use trace_tests::case::{
     frames, text, Call, Case, Implementation, Outcome, Tally, CALLS, MARGIN, REFERENCE,
@@ -13,7 +14,10 @@ use trace_tests::holds::has_inner_pair;
 use trace_tests::random::{self, text_of_words, Random};
 use trace_tests::random_case::{random_case, random_recording, random_right};
 use trace_tests::table::print_edges;
-use trace_tests::{brute_equal, equal, plain, reads, Fields, LINE_BYTES, MOST_FRAMES, VARIABLES};
+use trace_tests::{
+    brute_equal, check_recording, equal, moves_declared, moves_inferred, plain, reads, Fields,
+    LINE_BYTES, MOST_FRAMES, VARIABLES,
+};
 
 #[path = "../ffi.rs"]
 mod ffi;
@@ -26,6 +30,8 @@ const OTHER_CASES: usize = 60_000;
 /// Pairs for the search that equality is defined by.
 const BRUTE_PAIRS: usize = 6_000;
 const BRUTE_FRAMES: usize = 8;
+/// All recordings of up to so many frames, for the furthest displacements.
+const FURTHEST_FRAMES: usize = 6;
 /// One case of so many is about the limit of 4,096 frames.
 const LONG_EVERY: usize = 400;
 
@@ -36,16 +42,20 @@ const PLAIN: Implementation = Implementation {
     equal: plain::equal,
     serial_declared: plain::serial_declared,
     serial_inferred: plain::serial_inferred,
+    moves_declared: plain::moves_declared,
+    moves_inferred: plain::moves_inferred,
     write: plain::write,
     line_read: plain::line_read,
     ..REFERENCE
 };
 
-const PLAIN_CALLS: [Call; 6] = [
+const PLAIN_CALLS: [Call; 8] = [
     Call::Check,
     Call::Equal,
     Call::SerialDeclared,
     Call::SerialInferred,
+    Call::MovesDeclared,
+    Call::MovesInferred,
     Call::Write,
     Call::LineRead,
 ];
@@ -61,6 +71,8 @@ const NOTHING: Implementation = Implementation {
     equal: |_, _| 0,
     serial_declared: |_, _, _| 0,
     serial_inferred: |_, _| 0,
+    moves_declared: |_, _, _| 0,
+    moves_inferred: |_, _| 0,
     write: |_, _, _| 0,
     line_read: |_, _| 0,
     line_write: |_, _| 0,
@@ -80,6 +92,14 @@ fn compare(case: &Case) -> Outcome {
 }
 
 // Literal cases.
+
+/// The first of these calls, or with a list the second.
+fn order_case(calls: [Call; 2], list: Option<&[u8]>, frames: &[u32], out_len: usize) -> Case {
+    let mut case = Case::new(calls[usize::from(list.is_some())]);
+    case.text = list.unwrap_or_default().to_vec();
+    (case.frames, case.words_len) = (frames.to_vec(), out_len);
+    case
+}
 
 #[derive(Default)]
 struct Literals {
@@ -200,21 +220,39 @@ impl Literals {
         self.expect(case, reply, &|_, _| true);
     }
 
-    /// The serial order by place, in outputs of exact and of greater length; a shorter one is
-    /// refused by 15. Without a list the guards are inferred.
+    /// The serial order by place, and the displacements, in outputs of exact and of greater length;
+    /// a shorter one is refused by 15 or 21. Without a list the guards are inferred.
     fn serial(&mut self, list: Option<&str>, words: &str, places: &[usize]) {
         let frames = frames(words);
         let order: Vec<u32> = places.iter().map(|&place| frames[place]).collect();
-        let list = list.map(text);
         let count = frames.len();
-        for out_len in [count, count + 1, count + 20] {
-            self.serial_raw(list.as_deref(), &frames, out_len, count as u64, &order);
+        let moves = (0..count).map(|place| {
+            let to = places.iter().position(|&from| from == place);
+            to.expect("each place") as i32 - place as i32
+        });
+        let moves: Vec<i32> = moves.collect();
+        let list = list.map(text);
+        for out_len in [0, count.saturating_sub(1), count, count + 1, count + 20] {
+            self.order_raw(list.as_deref(), &frames, out_len, &order, &moves);
         }
-        for out_len in [0, count.saturating_sub(1)] {
-            if out_len < count {
-                let refusal = 15 << 32 | count as u64;
-                self.serial_raw(list.as_deref(), &frames, out_len, refusal, &[]);
-            }
+    }
+
+    /// Both are written where there is room.
+    fn order_raw(
+        &mut self,
+        list: Option<&[u8]>,
+        frames: &[u32],
+        out_len: usize,
+        order: &[u32],
+        moves: &[i32],
+    ) {
+        let count = frames.len();
+        if out_len < count {
+            self.serial_raw(list, frames, out_len, 15 << 32 | count as u64, &[]);
+            self.moves_raw(list, frames, out_len, 21 << 32 | count as u64, &[]);
+        } else {
+            self.serial_raw(list, frames, out_len, count as u64, order);
+            self.moves_raw(list, frames, out_len, count as u64, moves);
         }
     }
 
@@ -226,12 +264,8 @@ impl Literals {
         reply: u64,
         order: &[u32],
     ) {
-        let mut case = Case::new(match list {
-            Some(_) => Call::SerialDeclared,
-            None => Call::SerialInferred,
-        });
-        case.text = list.unwrap_or_default().to_vec();
-        (case.frames, case.words_len) = (frames.to_vec(), out_len);
+        let calls = [Call::SerialInferred, Call::SerialDeclared];
+        let case = order_case(calls, list, frames, out_len);
         self.expect(case, reply, &|outcome, before| {
             let mut words_after = before.words.clone();
             words_after[MARGIN..][..order.len()].copy_from_slice(order);
@@ -239,13 +273,34 @@ impl Literals {
         });
     }
 
-    /// The serial order is refused whatever the length of the output, which stays as it was.
+    fn moves_raw(
+        &mut self,
+        list: Option<&[u8]>,
+        frames: &[u32],
+        out_len: usize,
+        reply: u64,
+        moves: &[i32],
+    ) {
+        let calls = [Call::MovesInferred, Call::MovesDeclared];
+        let case = order_case(calls, list, frames, out_len);
+        self.expect(case, reply, &|outcome, before| {
+            let mut moves_after = before.moves.clone();
+            moves_after[MARGIN..][..moves.len()].copy_from_slice(moves);
+            outcome.moves == moves_after
+        });
+    }
+
+    /// Both are refused whatever the length of the output, which stays as it was.
     fn serial_refused(&mut self, list: Option<&str>, words: &str, number: u64, place: u64) {
         let (list, frames) = (list.map(text), frames(words));
         for out_len in [0, frames.len(), frames.len() + 5] {
-            let refusal = number << 32 | place;
-            self.serial_raw(list.as_deref(), &frames, out_len, refusal, &[]);
+            self.refused_raw(list.as_deref(), &frames, out_len, number << 32 | place);
         }
+    }
+
+    fn refused_raw(&mut self, list: Option<&[u8]>, frames: &[u32], out_len: usize, refusal: u64) {
+        self.serial_raw(list, frames, out_len, refusal, &[]);
+        self.moves_raw(list, frames, out_len, refusal, &[]);
     }
 
     /// These words are written from a place on into a text of this length.
@@ -947,7 +1002,7 @@ fn serial_orders(to: &mut Literals) {
     to.serial_refused(None, "05010000 06010000 05010000 05000000 05010000", 14, 2);
     to.serial_refused(None, "05000000 05010000 05010000 06010000 06000000", 14, 1);
     to.serial_refused(None, "051F0000 05000000 06000000", 14, 0);
-    // J, and every refusal before the next: list, recording, 13, 14, 15.
+    // J, and every refusal before the next: list, recording, 13, 14, 15 or 21.
     to.serial_refused(None, "01000003 01010003", 7, 1);
     to.serial_refused(None, "01000003 02010003", 8, 1);
     to.serial_refused(None, &"01000003 ".repeat(16), 20, 15);
@@ -965,13 +1020,34 @@ fn serial_orders(to: &mut Literals) {
     let most = [0x0500_0000, 0x0600_0000].repeat(2048);
     let more = [most.as_slice(), &[0xFFFF_FFFF]].concat();
     for list in [None, Some(&b""[..])] {
-        to.serial_raw(list, &most, 4096, 4096, &most);
-        to.serial_raw(list, &most, 4095, 15 << 32 | 4096, &[]);
-        to.serial_raw(list, &more, 4097, 2 << 32 | 4096, &[]);
-        to.serial_raw(list, &more, 0, 2 << 32 | 4096, &[]);
-        to.serial_raw(list, &most[..4095], 4095, 14 << 32 | 4094, &[]);
+        to.order_raw(list, &most, 4096, &most, &[0; 4096]);
+        to.order_raw(list, &most, 4095, &[], &[]);
+        to.refused_raw(list, &more, 4097, 2 << 32 | 4096);
+        to.refused_raw(list, &more, 0, 2 << 32 | 4096);
+        to.refused_raw(list, &most[..4095], 4095, 14 << 32 | 4094);
     }
-    to.serial_raw(Some(b"x"), &more, 0, 1 << 32, &[]);
+    to.refused_raw(Some(b"x"), &more, 0, 1 << 32);
+}
+
+/// In numbers: case C, and the furthest displacements of the longest recordings.
+fn furthest_displacements(to: &mut Literals) {
+    let c = frames(
+        "05000000 05010000 01000000 04000000 02000000 01010000 04010000 06000000 02010000 06010000",
+    );
+    let moves = [0, 4, -1, -1, -1, 1, 1, -3, 0, 0];
+    to.moves_raw(None, &c, 10, 10, &moves);
+    to.moves_raw(Some(b"00000000\n"), &c, 11, 10, &moves);
+    let [later, earlier] = furthest(MOST_FRAMES);
+    let (mut latest, mut earliest) = ([-1; MOST_FRAMES], [1; MOST_FRAMES]);
+    (latest[0], latest[4095]) = (4094, 0);
+    (earliest[4094], earliest[4095]) = (-4094, 0);
+    for (words, moves) in [(&later, &latest), (&earlier, &earliest)] {
+        for list in [None, Some(&b""[..])] {
+            to.moves_raw(list, words, 4097, 4096, moves);
+            to.moves_raw(list, words, 4096, 4096, moves);
+            to.moves_raw(list, words, 4095, 21 << 32 | 4096, &[]);
+        }
+    }
 }
 
 fn frame_boundaries(to: &mut Literals) {
@@ -1427,6 +1503,47 @@ fn compare_search(random: &mut Random) -> bool {
     complete
 }
 
+/// All recordings of a few frames of two threads, by the reference: a displacement is 0, or at most
+/// the length less 2 in either direction, and that is reached in both.
+fn compare_furthest() -> bool {
+    let mut reached = [[false; 2]; FURTHEST_FRAMES + 1];
+    let mut open = vec![Vec::new()];
+    let mut written = 0;
+    while let Some(words) = open.pop() {
+        let count = words.len();
+        for list in [None, Some(&b""[..]), Some(b"00000000\n")] {
+            let mut moves = [0; FURTHEST_FRAMES];
+            let reply = match list {
+                Some(list) => moves_declared(list, &words, &mut moves),
+                None => moves_inferred(&words, &mut moves),
+            };
+            written += u32::from(reply == count as u64);
+            for by in moves.into_iter().filter(|&by| by != 0) {
+                let distance = by.unsigned_abs() as usize;
+                if distance + 2 > count {
+                    println!("TOO FAR: {by} in {words:08X?}");
+                    exit(1);
+                }
+                reached[count][usize::from(by < 0)] |= distance + 2 == count;
+            }
+        }
+        for operation in [ACQUIRE, RELEASE, WRITE, BEGIN, END] {
+            for thread in 0..2 {
+                let longer = [&words[..], &[word(operation, thread, 0)]].concat();
+                if longer.len() <= FURTHEST_FRAMES && check_recording(&longer).is_ok() {
+                    open.push(longer);
+                }
+            }
+        }
+    }
+    println!("displacements of all recordings of up to {FURTHEST_FRAMES} frames: {written} lists");
+    let complete = !reached[3..].concat().contains(&false);
+    if !complete {
+        println!("  FAILED: not as far as can be");
+    }
+    complete
+}
+
 /// Prints the counts; false if something that can occur is absent.
 fn report(tally: &Tally, call: Call) -> bool {
     let (kinds, refusals) = (call.possible_kinds(), call.possible_refusals());
@@ -1437,7 +1554,7 @@ fn report(tally: &Tally, call: Call) -> bool {
     };
     println!("{}: {} cases", call.name(), tally.cases);
     let mut complete = true;
-    let [equal_moved, unequal_same_length, serial_moved] = tally.moved;
+    let [equal_moved, unequal_same_length, order_moved] = tally.moved;
     let long = tally.long_moved;
     if call == Call::Equal {
         let [unequal, equal, ..] = tally.kinds;
@@ -1446,10 +1563,10 @@ fn report(tally: &Tally, call: Call) -> bool {
         complete &= unequal_same_length > 0 && unequal > unequal_same_length && long > 0;
         complete &= shown("refusals, left ", refusals, &tally.refusals);
         complete &= shown("refusals, right", refusals, &tally.right_refusals);
-    } else if call.is_serial() {
+    } else if call.orders() {
         let written = tally.kinds[0];
-        println!("  written: {written}, {serial_moved} of these not as recorded, {long} long");
-        complete &= written > serial_moved && long > 0;
+        println!("  written: {written}, {order_moved} of these not as recorded, {long} long");
+        complete &= written > order_moved && long > 0;
         complete &= shown("refusals", refusals, &tally.refusals);
     } else if matches!(call, Call::Write | Call::LineRead | Call::LineWrite) {
         let (written, back) = (tally.kinds[0], tally.came_back);
@@ -1493,6 +1610,7 @@ fn main() {
     equal_recordings(&mut literals);
     exchanged_reads(&mut literals);
     serial_orders(&mut literals);
+    furthest_displacements(&mut literals);
     written_texts(&mut literals);
     verdict_lines(&mut literals);
     println!("literal cases: {}", literals.checked);
@@ -1517,6 +1635,7 @@ fn main() {
     }
     complete &= print_edges([&edges]);
     complete &= compare_search(random);
+    complete &= compare_furthest();
     if !complete {
         exit(1);
     }

@@ -57,7 +57,7 @@ const FAMILIES: [Family; 13] = [
         round: random_lengths,
         least_rounds: 3_000,
         kinds: &[0, 4],
-        refusals: &[1, 2, 3, 13, 14, 15, 16, 17],
+        refusals: &[1, 2, 3, 13, 14, 15, 16, 17, 21],
     },
     Family {
         name: "operations",
@@ -102,7 +102,7 @@ const FAMILIES: [Family; 13] = [
         round: random_alternation,
         least_rounds: 200,
         kinds: &[0],
-        refusals: &[14, 15],
+        refusals: &[14, 15, 21],
     },
     Family {
         name: "guards",
@@ -240,6 +240,7 @@ impl Soak {
         self.text(Call::Guards, list);
         self.words(Call::Declared, list, words);
         self.words(Call::SerialDeclared, list, words);
+        self.words(Call::MovesDeclared, list, words);
     }
 
     /// Written from a place on into a text of a length.
@@ -272,6 +273,8 @@ impl Soak {
             Call::Inferred,
             Call::SerialDeclared,
             Call::SerialInferred,
+            Call::MovesDeclared,
+            Call::MovesInferred,
             Call::Write,
         ] {
             self.words(call, list, words);
@@ -423,12 +426,16 @@ fn set_lengths(soak: &mut Soak) {
     }
 }
 
-/// Outputs of the serial orders.
+/// Outputs of the serial orders and of the displacements.
 fn output_lengths(soak: &mut Soak) {
     for count in [0, 1, 2, 3, 10, MOST_FRAMES - 2, MOST_FRAMES] {
+        let mut recordings = vec![pairs(count), vec![word(READ, 0, 5); count]];
+        if count >= 3 {
+            recordings.extend(furthest(count));
+        }
         for words_len in near(count) {
-            for words in [pairs(count), vec![word(READ, 0, 5); count]] {
-                for call in [Call::SerialDeclared, Call::SerialInferred] {
+            for words in &recordings {
+                for call in CALLS.into_iter().filter(|call| call.orders()) {
                     let mut case = soak.case(call, count);
                     (case.frames, case.words_len) = (words.clone(), words_len);
                     soak.take(case);

@@ -1,5 +1,5 @@
-//! A benchmark, not a test: `trace_check`, `trace_equal`, the serial orders, `trace_write` and
-//! `trace_line_read` of the archives against the plain Rust checker.
+//! A benchmark, not a test: `trace_check`, `trace_equal`, the serial orders, the displacements,
+//! `trace_write` and `trace_line_read` of the archives against the plain Rust checker.
 //! Arguments: an optional number of rounds.
 
 use std::hint::black_box;
@@ -15,7 +15,7 @@ const ROUNDS: usize = 101;
 const FRAMES: usize = 4096;
 /// About so many bytes of text are read in one round.
 const ROUND_BYTES: usize = 64 * 9 * FRAMES;
-/// Lengths that show how the time of equality and serial orders grows.
+/// Lengths that show how the time of equality, serial orders and displacements grows.
 const LENGTHS: [usize; 3] = [64, 512, FRAMES];
 /// About so many frames are taken in one round of these.
 const ROUND_FRAMES: usize = 64 * FRAMES;
@@ -173,7 +173,7 @@ fn check_rows(rounds: usize) {
     }
 }
 
-// Equality and serial orders.
+// Equality, serial orders and displacements.
 
 /// A recording and its serial order.
 struct Pair {
@@ -181,8 +181,24 @@ struct Pair {
     serial: Vec<u32>,
 }
 
+/// What is lent, as long as the longest recording.
+#[derive(Debug, PartialEq)]
+struct Out {
+    words: Vec<u32>,
+    moves: Vec<i32>,
+}
+
+impl Out {
+    fn new() -> Out {
+        Out {
+            words: vec![0; FRAMES],
+            moves: vec![0; FRAMES],
+        }
+    }
+}
+
 /// Takes the recording, its serial order and an output; replies as the library.
-type Call = fn(&[u32], &[u32], &mut [u32]) -> u64;
+type Call = fn(&[u32], &[u32], &mut Out) -> u64;
 
 struct Row {
     name: &'static str,
@@ -192,7 +208,12 @@ struct Row {
     rust: Call,
 }
 
-const ROWS: [Row; 3] = [
+/// As much of an output as the recording is long.
+fn room<'a, T>(out: &'a mut [T], words: &[u32]) -> &'a mut [T] {
+    &mut out[..words.len()]
+}
+
+const ROWS: [Row; 5] = [
     Row {
         name: "equality with the serial order",
         unprotected: false,
@@ -202,14 +223,26 @@ const ROWS: [Row; 3] = [
     Row {
         name: "serial order, declared, empty list",
         unprotected: true,
-        library: |words, _, out| ffi::serial_declared(&[], words, out),
-        rust: |words, _, out| plain::serial_declared(&[], words, out),
+        library: |words, _, out| ffi::serial_declared(&[], words, room(&mut out.words, words)),
+        rust: |words, _, out| plain::serial_declared(&[], words, room(&mut out.words, words)),
     },
     Row {
         name: "serial order, inferred",
         unprotected: false,
-        library: |words, _, out| ffi::serial_inferred(words, out),
-        rust: |words, _, out| plain::serial_inferred(words, out),
+        library: |words, _, out| ffi::serial_inferred(words, room(&mut out.words, words)),
+        rust: |words, _, out| plain::serial_inferred(words, room(&mut out.words, words)),
+    },
+    Row {
+        name: "displacements, declared, empty list",
+        unprotected: true,
+        library: |words, _, out| ffi::moves_declared(&[], words, room(&mut out.moves, words)),
+        rust: |words, _, out| plain::moves_declared(&[], words, room(&mut out.moves, words)),
+    },
+    Row {
+        name: "displacements, inferred",
+        unprotected: false,
+        library: |words, _, out| ffi::moves_inferred(words, room(&mut out.moves, words)),
+        rust: |words, _, out| plain::moves_inferred(words, room(&mut out.moves, words)),
     },
 ];
 
@@ -242,12 +275,11 @@ fn pair(random: &mut Random, frames: usize, unprotected: bool) -> Pair {
 }
 
 /// Nanoseconds per call over one round.
-fn round_of_pairs(call: Call, pairs: &[Pair], repeats: usize, out: &mut [u32]) -> f64 {
+fn round_of_pairs(call: Call, pairs: &[Pair], repeats: usize, out: &mut Out) -> f64 {
     let start = Instant::now();
     for _ in 0..repeats {
         for Pair { words, serial } in pairs {
-            let out = &mut black_box(&mut *out)[..words.len()];
-            black_box(call(black_box(words), black_box(serial), out));
+            black_box(call(black_box(words), black_box(serial), black_box(out)));
         }
     }
     start.elapsed().as_nanos() as f64 / (repeats * pairs.len()) as f64
@@ -261,15 +293,15 @@ fn order_rows(rounds: usize) {
         "", "library", "Rust", "library/Rust", "ns per frame"
     );
     let random = &mut Random::new(SEED);
-    let (mut out, mut plain_out) = (vec![0; FRAMES], vec![0; FRAMES]);
+    let (mut out, mut plain_out) = (Out::new(), Out::new());
     for row in ROWS {
         for frames in LENGTHS {
             let pairs: Vec<Pair> = (0..DIFFERENT)
                 .map(|_| pair(random, frames, row.unprotected))
                 .collect();
             for Pair { words, serial } in &pairs {
-                let reply = (row.library)(words, serial, &mut out[..frames]);
-                assert_eq!(reply, (row.rust)(words, serial, &mut plain_out[..frames]));
+                let reply = (row.library)(words, serial, &mut out);
+                assert_eq!(reply, (row.rust)(words, serial, &mut plain_out));
                 assert!(reply == 1 || reply == frames as u64);
                 assert_eq!(out, plain_out);
             }

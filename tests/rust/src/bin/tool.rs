@@ -11,7 +11,8 @@ use std::path::PathBuf;
 use std::process::{Command, ExitCode, Stdio};
 use std::time::{Duration, SystemTime};
 use trace_tests::adversarial::{
-    guard_lines, near_lines, pairs, random_fields, random_line, EDGE_KINDS, EDGE_LOCKS, EDGE_PLACES,
+    furthest, guard_lines, near_lines, pairs, random_fields, random_line, word, ACQUIRE, BEGIN,
+    EDGE_KINDS, EDGE_LOCKS, EDGE_PLACES, END, RELEASE,
 };
 use trace_tests::case::{text, Call};
 use trace_tests::random::{damage_text, interleaved, text_of_words, Random};
@@ -30,9 +31,9 @@ const RANDOM_LONG: usize = 60;
 const RANDOM_LINES: usize = 600;
 /// The length of the longest recording's text.
 const MOST_BYTES: usize = 9 * MOST_FRAMES;
-const COMMANDS: [&str; 5] = ["verdict", "serial", "explain", "equal", "line"];
+const COMMANDS: [&str; 6] = ["verdict", "serial", "moves", "explain", "equal", "line"];
 /// The commands on one recording.
-const JUDGING: [&str; 3] = ["verdict", "serial", "explain"];
+const JUDGING: [&str; 4] = ["verdict", "serial", "moves", "explain"];
 
 /// Done, or what went wrong.
 type Done = Result<(), String>;
@@ -104,7 +105,7 @@ const NOT_GIVEN: &str = ", which this check does not give; ";
 fn label(printed: &str) -> String {
     let words: Vec<&str> = printed.split_whitespace().take(3).collect();
     match words[..] {
-        ["refused:", ..] if printed.contains(NOT_GIVEN) => "refusal above 20".into(),
+        ["refused:", ..] if printed.contains(NOT_GIVEN) => "refusal above 21".into(),
         ["refused:", _, number] => {
             let file = FILES.iter().find(|file| printed.contains(*file));
             refusal_label(number.trim_end_matches(','), file.unwrap_or(&""))
@@ -146,7 +147,7 @@ fn required(command: &str) -> Vec<String> {
                 kinds.collect(),
             )
         }
-        "serial" => (
+        "serial" | "moves" => (
             &["written"],
             [of_files, refusals(RECORDING, &[13, 14])].concat(),
         ),
@@ -161,13 +162,13 @@ fn required(command: &str) -> Vec<String> {
                 "kind 2",
                 "kind 3",
                 "kind 4",
-                "refusal above 20",
+                "refusal above 21",
             ],
             [
                 refusals(TEXT, &[1, 19]),
                 refusals(GUARD_LIST, &[11, 12]),
                 refusals(RECORDING, &[2, 4, 5, 6, 7, 8, 9, 10, 13, 14, 20]),
-                refusals("", &[3, 15, 16, 17, 18]),
+                refusals("", &[3, 15, 16, 17, 18, 21]),
             ]
             .concat(),
         ),
@@ -263,17 +264,14 @@ impl Tool {
 
     fn count(&mut self, command: String, printed: &str) -> Done {
         *self.counts.entry((command, label(printed))).or_default() += 1;
-        // Verdict lines and serial orders begin with a digit.
-        if !printed.starts_with(|first: char| first.is_ascii_digit()) {
-            for line in printed.lines() {
-                let mut known = self
-                    .lines
-                    .iter_mut()
-                    .filter(|(template, _)| fits(template, line));
-                let Some((_, count)) = known.next() else {
-                    return Err(format!("docs/TOOL.md has no line \"{line}\""));
-                };
-                *count += 1;
+        // Verdict lines, serial orders and displacements, of which the document has an example.
+        let listed = printed.starts_with(|first: char| first.is_ascii_digit() || first == '+');
+        for line in printed.lines() {
+            let mut known = self.lines.iter_mut();
+            match known.find(|(template, _)| *template == line || !listed && fits(template, line)) {
+                Some((_, count)) => *count += 1,
+                None if listed => {}
+                None => return Err(format!("docs/TOOL.md has no line \"{line}\"")),
             }
         }
         Ok(())
@@ -325,7 +323,7 @@ const SIXTEEN: &str = "01000003 01000003 01000003 01000003 01000003 01000003 010
                        01000003 01000003 01000003 01000003 01000003 01000003 01000003 01000003";
 
 /// What is printed, given a recording and, for declared guards, a list.
-const LITERALS: [(&str, &str, Option<&str>, &str); 32] = [
+const LITERALS: [(&str, &str, Option<&str>, &str); 37] = [
     ("verdict", A, None, "03000401000000030000000000000001\n"),
     ("verdict", "", None, "00000000FFFFFFFF0000000000000000\n"),
     ("verdict", C, None, "00000A00FFFFFFFF0000000000000000\n"),
@@ -399,6 +397,34 @@ const LITERALS: [(&str, &str, Option<&str>, &str); 32] = [
         None,
         "refused: number 13, the recording is not reducible, so there is no serial order; \
          line 5 [4] goes wrong, and explain says why.\n",
+    ),
+    ("moves", "", None, ""),
+    (
+        "moves",
+        C,
+        None,
+        "0 05000000\n+4 05010000\n-1 01000000\n-1 04000000\n-1 02000000\n\
+         +1 01010000\n+1 04010000\n-3 06000000\n0 02010000\n0 06010000\n",
+    ),
+    (
+        "moves",
+        UNITS,
+        Some(""),
+        "+3 05000000\n-1 05010000\n-1 03010000\n-1 06010000\n0 03000000\n0 06000000\n",
+    ),
+    (
+        "moves",
+        "05000000",
+        None,
+        "refused: number 14, the block that begins at line 1 [0] of the recording is open at the \
+         end; add its end.\n",
+    ),
+    (
+        "moves",
+        E,
+        Some(""),
+        "refused: number 13, the recording is not reducible, so there is no serial order; \
+         line 3 [2] goes wrong, and explain says why.\n",
     ),
     (
         "explain",
@@ -545,7 +571,7 @@ fn literals(tool: &mut Tool) -> Done {
 
 /// The lines of recordings A, E, G and D, of others, and of each refusal; the texts of
 /// docs/TOOL.md.
-const LITERAL_LINES: [(&str, &str); 33] = [
+const LITERAL_LINES: [(&str, &str); 34] = [
     (
         "00000300FFFFFFFF0000000000000000",
         "reducible: no frame goes wrong; frames: 3.\n",
@@ -706,8 +732,13 @@ const LITERAL_LINES: [(&str, &str); 33] = [
          times already; hold it at most 15 times.\n",
     ),
     (
-        "95000000FFFFFFFF0000000000000000",
-        "refused: number 21, which this check does not give; its place is 0.\n",
+        "95100000FFFFFFFF0000000000000000",
+        "refused: number 21, the list of displacements has fewer than 4096 numbers; lend one for \
+         each frame.\n",
+    ),
+    (
+        "96000000FFFFFFFF0000000000000000",
+        "refused: number 22, which this check does not give; its place is 0.\n",
     ),
     (
         "FFFFFFFFFFFFFFFFFFFFFFFFFFFFFFFF",
@@ -843,6 +874,42 @@ fn worked_recordings(tool: &mut Tool) -> Done {
         }
     }
     Ok(())
+}
+
+/// Displacements with one digit to four, on both sides of each boundary.
+fn furthest_moves(tool: &mut Tool) -> Done {
+    for count in [3, 11, 12, 101, 102, 1001, 1002, MOST_FRAMES] {
+        for words in furthest(count) {
+            judge(tool, &text_of_words(&words), &[b""])?;
+        }
+    }
+    Ok(())
+}
+
+/// Two blocks of 2,048 frames each, of which the second commits first. Each displacement has a sign
+/// and four digits, so no answer of the tool is longer.
+fn longest_answer(tool: &mut Tool) -> Done {
+    let inner = |thread, pairs| [word(BEGIN, thread, 0), word(END, thread, 0)].repeat(pairs);
+    let committed = [ACQUIRE, RELEASE].map(|operation| word(operation, 1, 0));
+    let parts = [
+        ([&[word(BEGIN, 0, 0)], &inner(0, 1023)[..]].concat(), 2048),
+        ([&[word(BEGIN, 1, 0)], &committed[..]].concat(), -2047),
+        (vec![word(END, 0, 0)], 2045),
+        ([&inner(1, 1022)[..], &[word(END, 1, 0)]].concat(), -2048),
+    ];
+    let mut words = Vec::new();
+    let mut answer = String::new();
+    for (part, by) in &parts {
+        words.extend_from_slice(part);
+        answer.extend(part.iter().map(|word| format!("{by:+} {word:08X}\n")));
+    }
+    if answer.len() != 15 * MOST_FRAMES {
+        return Err(format!("the longest answer has {} bytes", answer.len()));
+    }
+    write("recording", &text_of_words(&words))?;
+    write("list", b"")?;
+    tool.expect_text(&["moves", "recording"], &answer)?;
+    tool.expect_text(&["moves", "recording", "--guards", "list"], &answer)
 }
 
 // Refusals.
@@ -1036,6 +1103,7 @@ fn long_literals(tool: &mut Tool) -> Done {
         let words = |command| [&[command, "long"], guards].concat();
         tool.expect_text(&words("verdict"), TOO_LONG)?;
         tool.expect_text(&words("serial"), &too_long(RECORDING))?;
+        tool.expect_text(&words("moves"), &too_long(RECORDING))?;
         tool.expect_text(&words("explain"), &too_long(RECORDING))?;
     }
     tool.expect_text(&["equal", "long", "good"], &too_long(LEFT))?;
@@ -1185,6 +1253,8 @@ fn no_such_command(tool: &mut Tool) -> Done {
         "Line",
         "lines",
         "lin",
+        "Moves",
+        "move",
         "help",
         "--help",
         "--guards",
@@ -1332,6 +1402,8 @@ fn test(program: &OsStr, seed: u64) -> Result<usize, String> {
     help(&mut tool)?;
     literals(&mut tool)?;
     worked_recordings(&mut tool)?;
+    furthest_moves(&mut tool)?;
+    longest_answer(&mut tool)?;
     refusals(&mut tool)?;
     bad_use(&mut tool)?;
     kept_lines(&mut tool, random)?;

@@ -1,0 +1,2 @@
+-- Laws of the lines, and of a list of displacements that is written.
+pub mod Laws
