@@ -8,15 +8,13 @@
  *
  * A uint64_t reply holds the refusal's number in the high 32 bits, 0 if there is none. The low
  * 32 bits hold the refusal's place, or without one the count answered. trace_equal adds to this.
- *
- * trace_equal, the two serial orders and the two lists of displacements are in libtraceorder.a;
- * trace_write, trace_line_read and trace_line_write in libtracetext.a; the others in libtrace.a.
+ * trace_check.h has names for limits, operations, kinds and refusals, and macros that take a reply
+ * apart; it also says what the figures of stacks count. Link with -ltrace.
  */
 #ifndef TRACE_LIBRARY_H
 #define TRACE_LIBRARY_H
 
-#include <stddef.h>
-#include <stdint.h>
+#include "trace_check.h"
 
 #ifdef __cplusplus
 extern "C" {
@@ -28,14 +26,18 @@ extern "C" {
  * Refusals: 1 a line is not eight digits 0-9 A-F and an LF (place: line); 2 a byte stands after
  * the 4,096th line (place 4096); after all lines, 3 words_len is below the number of lines
  * (place: lines). A refusal writes nothing.
+ * Stack: at most TRACE_STACK_READ bytes.
  */
+#define TRACE_STACK_READ 2560
 uint64_t trace_read(const uint8_t *text, size_t text_len, uint32_t *words, size_t words_len);
 
 /*
  * Checks a guard list: on each line variable (4 digits) and lock (4 digits), then LF.
  * Count: the lines. Refusals, line by line, place the line: 1 as for text; 11 variable above
  * 1023 or lock above 63; 12 variable already named.
+ * Stack: at most TRACE_STACK_GUARDS bytes.
  */
+#define TRACE_STACK_GUARDS 4608
 uint64_t trace_guards(const uint8_t *list, size_t list_len);
 
 /*
@@ -47,7 +49,9 @@ uint64_t trace_guards(const uint8_t *list, size_t list_len);
  * list; 2 words_len is above 4,096; 4 to 10 or 20 of the first frame that fails.
  * The line is the reply: it is written for a verdict, for a refusal of the recording, and for one
  * of the list as well (kind 0x81, 0x8B, 0x8C, frame = line of the list). Only 17 leaves it.
+ * Stack: at most TRACE_STACK_DECLARED bytes.
  */
+#define TRACE_STACK_DECLARED 12800
 uint8_t trace_declared(const uint8_t *list, size_t list_len, const uint32_t *words,
                        size_t words_len, uint8_t *line, size_t line_len);
 
@@ -63,7 +67,9 @@ uint8_t trace_declared(const uint8_t *list, size_t list_len, const uint32_t *wor
  * With a verdict, sets[v] for v from 0 to 1023 becomes variable v's candidate set, bit n for
  * lock n: after the last frame if reducible, else as before the violating frame. Later entries
  * keep their contents. A refusal leaves sets as it was.
+ * Stack: at most TRACE_STACK_INFERRED bytes.
  */
+#define TRACE_STACK_INFERRED 10752
 uint8_t trace_inferred(const uint32_t *words, size_t words_len, uint64_t *sets, size_t sets_len,
                        uint8_t *line, size_t line_len);
 
@@ -76,7 +82,9 @@ uint8_t trace_inferred(const uint32_t *words, size_t words_len, uint64_t *sets, 
  * Refusals in order: left_len is above 4,096 (2, place 4096) and the first frame of left that
  * fails (4 to 10 or 20, place: frame); then the same of right, with 256 added to the number. Both
  * are checked whole, whatever their lengths.
+ * Stack: at most TRACE_STACK_EQUAL bytes.
  */
+#define TRACE_STACK_EQUAL 9728
 uint64_t trace_equal(const uint32_t *left, size_t left_len, const uint32_t *right,
                      size_t right_len);
 
@@ -88,14 +96,18 @@ uint64_t trace_equal(const uint32_t *left, size_t left_len, const uint32_t *righ
  * 4096); 4 to 10 or 20 of the first frame that fails (place: frame); 13 not reducible (place: the
  * violating frame); 14 a block still open at the end (place: the smallest of an open outermost
  * begin); 15 out_len is below words_len (place: words_len). A refusal writes nothing.
+ * Stack: at most TRACE_STACK_SERIAL_DECLARED bytes.
  */
+#define TRACE_STACK_SERIAL_DECLARED 12288
 uint64_t trace_serial_declared(const uint8_t *list, size_t list_len, const uint32_t *words,
                                size_t words_len, uint32_t *out, size_t out_len);
 
 /*
  * The serial order with inferred guards: count, refusals and out as for trace_serial_declared,
  * without 1, 11 and 12.
+ * Stack: at most TRACE_STACK_SERIAL_INFERRED bytes.
  */
+#define TRACE_STACK_SERIAL_INFERRED 12288
 uint64_t trace_serial_inferred(const uint32_t *words, size_t words_len, uint32_t *out,
                                size_t out_len);
 
@@ -106,14 +118,18 @@ uint64_t trace_serial_inferred(const uint32_t *words, size_t words_len, uint32_t
  * Count: words_len; that many numbers of moves are written, later ones keep their contents.
  * Refusals as for trace_serial_declared, but for 21 in the place of 15: moves_len is below
  * words_len (place: words_len). A refusal writes nothing.
+ * Stack: at most TRACE_STACK_MOVES_DECLARED bytes.
  */
+#define TRACE_STACK_MOVES_DECLARED 12288
 uint64_t trace_moves_declared(const uint8_t *list, size_t list_len, const uint32_t *words,
                               size_t words_len, int32_t *moves, size_t moves_len);
 
 /*
  * How far each frame moves, with inferred guards: count, refusals and moves as for
  * trace_moves_declared, without 1, 11 and 12.
+ * Stack: at most TRACE_STACK_MOVES_INFERRED bytes.
  */
+#define TRACE_STACK_MOVES_INFERRED 12288
 uint64_t trace_moves_inferred(const uint32_t *words, size_t words_len, int32_t *moves,
                               size_t moves_len);
 
@@ -125,7 +141,9 @@ uint64_t trace_moves_inferred(const uint32_t *words, size_t words_len, int32_t *
  * Refusals in order: 2 words_len is above 4,096 (place 4096); 4 to 10 or 20 of the first frame
  * that fails (place: frame); 19 place is above text_len, or fewer than 9 * words_len bytes stand
  * from there (place: 9 * words_len). A refusal writes nothing.
+ * Stack: at most TRACE_STACK_WRITE bytes.
  */
+#define TRACE_STACK_WRITE 512
 uint64_t trace_write(const uint32_t *words, size_t words_len, uint8_t *text, size_t text_len,
                      size_t place);
 
@@ -135,7 +153,9 @@ uint64_t trace_write(const uint32_t *words, size_t words_len, uint8_t *text, siz
  * absent begin or commit is 0xFFFF. Each of the six pointers is to one number.
  * Reply: 0, and all six are written; or refusal 18 (place 0) for any other line, which leaves them
  * as they were.
+ * Stack: at most TRACE_STACK_LINE_READ bytes.
  */
+#define TRACE_STACK_LINE_READ 512
 uint64_t trace_line_read(const uint8_t *line, size_t line_len, uint8_t *kind, uint16_t *frame,
                          uint8_t *thread, uint16_t *begin, uint16_t *commit, uint64_t *locks);
 
@@ -144,7 +164,9 @@ uint64_t trace_line_read(const uint8_t *line, size_t line_len, uint8_t *kind, ui
  * Count: 33; exactly the first 33 bytes of line are written.
  * Refusals in order: 17 line_len is below 33 (place 33); 18 the kind is none of 0x00 to 0x04 and
  * 0x81 to 0xFF (place 0). A refusal writes nothing.
+ * Stack: at most TRACE_STACK_LINE_WRITE bytes.
  */
+#define TRACE_STACK_LINE_WRITE 512
 uint64_t trace_line_write(uint8_t kind, uint16_t frame, uint8_t thread, uint16_t begin,
                           uint16_t commit, uint64_t locks, uint8_t *line, size_t line_len);
 

@@ -76,10 +76,10 @@ static struct words load(const char *from, const char *end, struct options given
 {
     size_t length;
     uint8_t *text = expand(from, end, given.times, &length);
-    struct words read = nines(4096);
+    struct words read = nines(TRACE_MAX_FRAMES);
     uint64_t lines = trace_read(text, length, read.at, read.count);
     free(text);
-    if (lines >> 32)
+    if (TRACE_REPLY_IS_REFUSAL(lines))
         fail("a text that is not read");
     struct words words = nines(given.words < 0 ? lines : (size_t)given.words);
     for (size_t place = 0; place < words.count && place < lines; place++)
@@ -148,7 +148,7 @@ static void order(char letter, const char *text, const char *end, struct options
         text = middle + 1;
     }
     struct words words = load(text, end, given);
-    struct words out = nines(given.out < 0 ? 4097 : (size_t)given.out);
+    struct words out = nines(given.out < 0 ? TRACE_MAX_FRAMES + 1 : (size_t)given.out);
     int32_t *moves = (int32_t *)out.at;
     uint64_t reply;
     if (displaced)

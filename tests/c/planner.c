@@ -2,7 +2,6 @@
  * Calls the library from C. Every buffer is allocated at its exact size, so that a memory
  * checker finds any access outside. Expected lines are those of docs/FORMAT.md.
  */
-#include "trace_check.h"
 #include "trace_library.h"
 
 #include <stdio.h>
@@ -10,7 +9,6 @@
 #include <string.h>
 
 #define UNTOUCHED 0x5A
-#define REFUSAL(number, place) ((uint64_t)(number) << 32 | (place))
 #define CHECK(condition) check((condition), #condition, __LINE__)
 #define COUNT(array) (sizeof(array) / sizeof(array)[0])
 
@@ -64,8 +62,9 @@ static int is_untouched(const void *memory, size_t size)
 /* The line holds these 32 digits and LF, the rest is untouched. */
 static int holds_line(const uint8_t *line, size_t line_len, const char *digits)
 {
-    return line_len >= 33 && memcmp(line, digits, 32) == 0 && line[32] == '\n' &&
-           is_untouched(line + 33, line_len - 33);
+    const size_t last = TRACE_LINE_LENGTH - 1;
+    return line_len > last && memcmp(line, digits, last) == 0 && line[last] == '\n' &&
+           is_untouched(line + TRACE_LINE_LENGTH, line_len - TRACE_LINE_LENGTH);
 }
 
 static unsigned kind_of(const char *digits)
@@ -79,7 +78,8 @@ static unsigned kind_of(const char *digits)
 static int answers(unsigned kind, const uint8_t *line, size_t line_len, const char *digits)
 {
     if (digits == NULL)
-        return kind == 0x91 && is_untouched(line, line_len);
+        return kind == TRACE_KIND_OF_REFUSAL(TRACE_REFUSAL_LINE_TOO_SHORT) &&
+               is_untouched(line, line_len);
     return kind == kind_of(digits) && holds_line(line, line_len, digits);
 }
 
@@ -99,7 +99,7 @@ static int checks_to(const char *text, size_t line_len, const char *digits)
 static int reads_to(const char *text, size_t words_len, uint64_t reply, const uint32_t *expected)
 {
     size_t text_len = strlen(text);
-    size_t written = reply >> 32 ? 0 : (size_t)reply;
+    size_t written = TRACE_REPLY_IS_REFUSAL(reply) ? 0 : TRACE_REPLY_COUNT(reply);
     uint8_t *lent_text = copy_of(text, text_len);
     uint32_t *words = untouched(words_len * sizeof *words);
     int good = trace_read(lent_text, text_len, words, words_len) == reply;
@@ -144,7 +144,8 @@ static int infers_to(const uint32_t *words, size_t words_len, size_t sets_len, s
     uint8_t *line = untouched(line_len);
     unsigned kind = trace_inferred(lent_words, words_len, sets, sets_len, line, line_len);
     int good = answers(kind, line, line_len, digits);
-    size_t written = digits != NULL && kind_of(digits) < 0x80 ? 1024 : 0;
+    int verdict = digits != NULL && !TRACE_KIND_IS_REFUSAL(kind_of(digits));
+    size_t written = verdict ? TRACE_VARIABLES : 0;
     for (size_t place = 0; place < written; place++)
         good = good && sets[place] == (place == variable ? set : UINT64_MAX);
     good = good && is_untouched(sets + written, (sets_len - written) * sizeof *sets);
@@ -177,7 +178,7 @@ static int orders_or_moves_to(int displaced, const char *list, const uint32_t *w
                               const void *expected)
 {
     size_t list_len = list == NULL ? 0 : strlen(list);
-    size_t written = reply >> 32 ? 0 : (size_t)reply;
+    size_t written = TRACE_REPLY_IS_REFUSAL(reply) ? 0 : TRACE_REPLY_COUNT(reply);
     uint8_t *lent_list = copy_of(list, list_len);
     uint32_t *lent_words = copy_of(words, words_len * sizeof *words);
     void *out = untouched(out_len * sizeof(uint32_t));
@@ -216,7 +217,7 @@ static int moves_to(const char *list, const uint32_t *words, size_t words_len, s
 static int writes_to(const uint32_t *words, size_t words_len, size_t text_len, size_t place,
                      uint64_t reply, const char *expected)
 {
-    size_t written = reply >> 32 ? 0 : (size_t)reply;
+    size_t written = TRACE_REPLY_IS_REFUSAL(reply) ? 0 : TRACE_REPLY_COUNT(reply);
     uint32_t *lent_words = copy_of(words, words_len * sizeof *words);
     uint8_t *text = untouched(text_len);
     uint64_t given = trace_write(lent_words, words_len, text, text_len, place);
@@ -253,7 +254,8 @@ static int line_reads_to(const char *line, size_t line_len, const struct fields 
         trace_line_read(lent_line, line_len, kind, frame, thread, begin, commit, locks);
     int good;
     if (fields == NULL)
-        good = reply == REFUSAL(18, 0) && is_untouched(kind, sizeof *kind) &&
+        good = reply == TRACE_REPLY(TRACE_REFUSAL_NOT_A_VERDICT_LINE, 0) &&
+               is_untouched(kind, sizeof *kind) &&
                is_untouched(frame, sizeof *frame) && is_untouched(thread, sizeof *thread) &&
                is_untouched(begin, sizeof *begin) && is_untouched(commit, sizeof *commit) &&
                is_untouched(locks, sizeof *locks);
@@ -331,24 +333,31 @@ static void test_write(void)
 {
     const char *two_lines = "05000000\n06000000\n";
     CHECK(writes_to(two_frames, 2, 21, 3, 18, two_lines));
-    CHECK(writes_to(two_frames, 2, 21, 4, REFUSAL(19, 18), NULL));
-    CHECK(writes_to(two_frames, 2, 20, 3, REFUSAL(19, 18), NULL));
+    CHECK(writes_to(two_frames, 2, 21, 4, TRACE_REPLY(TRACE_REFUSAL_TEXT_TOO_SHORT, 18), NULL));
+    CHECK(writes_to(two_frames, 2, 20, 3, TRACE_REPLY(TRACE_REFUSAL_TEXT_TOO_SHORT, 18), NULL));
     CHECK(writes_to(two_frames, 0, 5, 5, 0, NULL));
-    CHECK(writes_to(two_frames, 0, 5, 6, REFUSAL(19, 0), NULL));
+    CHECK(writes_to(two_frames, 0, 5, 6, TRACE_REPLY(TRACE_REFUSAL_TEXT_TOO_SHORT, 0), NULL));
     CHECK(writes_to(two_frames, 0, 0, 0, 0, NULL));
-    CHECK(writes_to(two_frames, 0, 0, 1, REFUSAL(19, 0), NULL));
-    CHECK(writes_to(two_frames, 0, 0, SIZE_MAX, REFUSAL(19, 0), NULL));
+    CHECK(writes_to(two_frames, 0, 0, 1, TRACE_REPLY(TRACE_REFUSAL_TEXT_TOO_SHORT, 0), NULL));
+    CHECK(writes_to(two_frames, 0, 0, SIZE_MAX, TRACE_REPLY(TRACE_REFUSAL_TEXT_TOO_SHORT, 0),
+                    NULL));
     CHECK(writes_to(two_frames, 2, 18, 0, 18, two_lines));
-    CHECK(writes_to(two_frames, 2, 17, 0, REFUSAL(19, 18), NULL));
+    CHECK(writes_to(two_frames, 2, 17, 0, TRACE_REPLY(TRACE_REFUSAL_TEXT_TOO_SHORT, 18), NULL));
     CHECK(writes_to(two_frames, 2, 30, 5, 18, two_lines));
-    CHECK(writes_to(two_frames, 2, 30, SIZE_MAX, REFUSAL(19, 18), NULL));
-    CHECK(writes_to(two_frames, 2, 30, SIZE_MAX - 8, REFUSAL(19, 18), NULL));
-    CHECK(writes_to(two_frames, 2, 30, SIZE_MAX - 17, REFUSAL(19, 18), NULL));
-    CHECK(writes_to(two_frames, 2, 30, SIZE_MAX / 2 + 1, REFUSAL(19, 18), NULL));
+    CHECK(writes_to(two_frames, 2, 30, SIZE_MAX, TRACE_REPLY(TRACE_REFUSAL_TEXT_TOO_SHORT, 18),
+                    NULL));
+    CHECK(writes_to(two_frames, 2, 30, SIZE_MAX - 8, TRACE_REPLY(TRACE_REFUSAL_TEXT_TOO_SHORT, 18),
+                    NULL));
+    CHECK(writes_to(two_frames, 2, 30, SIZE_MAX - 17, TRACE_REPLY(TRACE_REFUSAL_TEXT_TOO_SHORT, 18),
+                    NULL));
+    CHECK(writes_to(two_frames, 2, 30, SIZE_MAX / 2 + 1,
+                    TRACE_REPLY(TRACE_REFUSAL_TEXT_TOO_SHORT, 18), NULL));
     CHECK(writes_to(words_a, COUNT(words_a), 72, 0, 72, text_a));
     CHECK(writes_to(begin_alone, 1, 9, 0, 9, "05000000\n"));
-    CHECK(writes_to(words_j, COUNT(words_j), 18, 0, REFUSAL(7, 1), NULL));
-    CHECK(writes_to(words_j, COUNT(words_j), 0, SIZE_MAX, REFUSAL(7, 1), NULL));
+    CHECK(writes_to(words_j, COUNT(words_j), 18, 0,
+                    TRACE_REPLY(TRACE_REFUSAL_LOCK_HELD_BY_OTHER, 1), NULL));
+    CHECK(writes_to(words_j, COUNT(words_j), 0, SIZE_MAX,
+                    TRACE_REPLY(TRACE_REFUSAL_LOCK_HELD_BY_OTHER, 1), NULL));
 }
 
 /* Verdict lines that are read and written. */
@@ -357,28 +366,34 @@ static void test_lines(void)
     const char *greatest = "FFFFFFFFFFFFFFFFFFFFFFFFFFFFFFFF\n";
     const struct fields all_bits = {0xFF, 0xFFFF, 0xFF, 0xFFFF, 0xFFFF, UINT64_MAX};
     const struct fields with_lock = {0, 0, 0xFF, 0xFFFE, 0, 2};
-    CHECK(line_reads_to("03000401000000030000000000000001\n", 33, &fields_a));
-    CHECK(line_writes_to(fields_a, 33, 33, line_a));
-    CHECK(line_reads_to(greatest, 33, &all_bits));
-    CHECK(line_writes_to(all_bits, 34, 33, greatest));
-    CHECK(line_reads_to("000000FFFFFE00000000000000000002\n", 33, &with_lock));
-    CHECK(line_writes_to(with_lock, 33, 33, "000000FFFFFE00000000000000000002"));
-    CHECK(line_reads_to("03000401000000030000000000000001\n", 32, NULL));
-    CHECK(line_reads_to("03000401000000030000000000000001\n\n", 34, NULL));
+    const uint64_t none = TRACE_REPLY(TRACE_REFUSAL_NOT_A_VERDICT_LINE, 0);
+    CHECK(line_reads_to("03000401000000030000000000000001\n", TRACE_LINE_LENGTH, &fields_a));
+    CHECK(line_writes_to(fields_a, TRACE_LINE_LENGTH, TRACE_LINE_LENGTH, line_a));
+    CHECK(line_reads_to(greatest, TRACE_LINE_LENGTH, &all_bits));
+    CHECK(line_writes_to(all_bits, TRACE_LINE_LENGTH + 1, TRACE_LINE_LENGTH, greatest));
+    CHECK(line_reads_to("000000FFFFFE00000000000000000002\n", TRACE_LINE_LENGTH, &with_lock));
+    CHECK(line_writes_to(with_lock, TRACE_LINE_LENGTH, TRACE_LINE_LENGTH,
+                         "000000FFFFFE00000000000000000002"));
+    CHECK(line_reads_to("03000401000000030000000000000001\n", TRACE_LINE_LENGTH - 1, NULL));
+    CHECK(line_reads_to("03000401000000030000000000000001\n\n", TRACE_LINE_LENGTH + 1, NULL));
     CHECK(line_reads_to("", 0, NULL));
-    CHECK(line_reads_to("0300040100000003000000000000000a\n", 33, NULL));
-    CHECK(line_reads_to("03000401000000030000000000000001\r", 33, NULL));
-    CHECK(line_reads_to("0300040100000003\n000000000000001\n", 33, NULL));
-    CHECK(line_writes_to(fields_a, 32, REFUSAL(17, 33), NULL));
-    CHECK(line_writes_to(fields_a, 0, REFUSAL(17, 33), NULL));
+    CHECK(line_reads_to("0300040100000003000000000000000a\n", TRACE_LINE_LENGTH, NULL));
+    CHECK(line_reads_to("03000401000000030000000000000001\r", TRACE_LINE_LENGTH, NULL));
+    CHECK(line_reads_to("0300040100000003\n000000000000001\n", TRACE_LINE_LENGTH, NULL));
+    CHECK(line_writes_to(fields_a, TRACE_LINE_LENGTH - 1,
+                         TRACE_REPLY(TRACE_REFUSAL_LINE_TOO_SHORT, TRACE_LINE_LENGTH), NULL));
+    CHECK(line_writes_to(fields_a, 0, TRACE_REPLY(TRACE_REFUSAL_LINE_TOO_SHORT, TRACE_LINE_LENGTH),
+                         NULL));
     for (unsigned kind = 0; kind <= 0xFF; kind++) {
         int fits = kind <= 0x04 || kind >= 0x81;
         const struct fields fields = {(uint8_t)kind, 65535, 255, 65535, 65534, 0};
-        char line[34];
+        char line[TRACE_LINE_LENGTH + 1];
         snprintf(line, sizeof line, "%02XFFFFFFFFFFFFFE0000000000000000\n", kind);
-        CHECK(line_reads_to(line, 33, fits ? &fields : NULL));
-        CHECK(line_writes_to(fields, 33, fits ? 33 : REFUSAL(18, 0), fits ? line : NULL));
-        CHECK(line_writes_to(fields, 32, REFUSAL(17, 33), NULL));
+        CHECK(line_reads_to(line, TRACE_LINE_LENGTH, fits ? &fields : NULL));
+        CHECK(line_writes_to(fields, TRACE_LINE_LENGTH, fits ? TRACE_LINE_LENGTH : none,
+                             fits ? line : NULL));
+        CHECK(line_writes_to(fields, TRACE_LINE_LENGTH - 1,
+                             TRACE_REPLY(TRACE_REFUSAL_LINE_TOO_SHORT, TRACE_LINE_LENGTH), NULL));
     }
 }
 
@@ -407,116 +422,148 @@ static const int32_t moves_again[] = {2, 2, 2, 2, 2, -5, -5, 0, 0};
 
 static void test_again(void)
 {
-    CHECK(infers_to(words_again, 9, 1024, 33, "00000900FFFFFFFF0000000000000000", 5, 1));
-    CHECK(declares_to("00050000\n", words_again, 9, 33, "00000900FFFFFFFF0000000000000000"));
+    CHECK(infers_to(words_again, 9, TRACE_VARIABLES, TRACE_LINE_LENGTH,
+                    "00000900FFFFFFFF0000000000000000", 5, 1));
+    CHECK(declares_to("00050000\n", words_again, 9, TRACE_LINE_LENGTH,
+                      "00000900FFFFFFFF0000000000000000"));
     CHECK(orders_to(NULL, words_again, 9, 9, 9, serial_again));
     CHECK(orders_to("00050000\n", words_again, 9, 9, 9, serial_again));
     CHECK(moves_to(NULL, words_again, 9, 9, 9, moves_again));
     CHECK(moves_to("00050000\n", words_again, 9, 10, 9, moves_again));
     CHECK(equals_to(words_again, 9, serial_again, 9, 1));
-    CHECK(infers_to(words_after, 7, 1024, 33, "00000700FFFFFFFF0000000000000000", 0, UINT64_MAX));
-    CHECK(infers_to(words_after, 8, 1024, 33, "03000700000000030000000000000002", 0, UINT64_MAX));
-    CHECK(orders_to(NULL, words_after, 8, 8, REFUSAL(13, 7), NULL));
-    CHECK(declares_to("", words_before, 9, 33, "00000900FFFFFFFF0000000000000000"));
+    CHECK(infers_to(words_after, 7, TRACE_VARIABLES, TRACE_LINE_LENGTH,
+                    "00000700FFFFFFFF0000000000000000", 0, UINT64_MAX));
+    CHECK(infers_to(words_after, 8, TRACE_VARIABLES, TRACE_LINE_LENGTH,
+                    "03000700000000030000000000000002", 0, UINT64_MAX));
+    CHECK(orders_to(NULL, words_after, 8, 8, TRACE_REPLY(TRACE_REFUSAL_NOT_REDUCIBLE, 7), NULL));
+    CHECK(declares_to("", words_before, 9, TRACE_LINE_LENGTH, "00000900FFFFFFFF0000000000000000"));
     CHECK(orders_to("", words_before, 9, 9, 9, serial_before));
     CHECK(orders_to(NULL, words_before, 9, 9, 9, serial_before));
-    CHECK(infers_to(words_held, 5, 1024, 33, "00000500FFFFFFFF0000000000000000", 5, 2));
-    CHECK(infers_to(words_held, 7, 1024, 33, "04000600FFFFFFFF0000000000000002", 5, 2));
-    CHECK(declares_to("00050001\n", words_held, 7, 33, "01000600FFFFFFFF0000000000000002"));
-    CHECK(declares_to("", words_other, 2, 33, "00000200FFFFFFFF0000000000000000"));
-    CHECK(declares_to("", words_other, 3, 33, "87000200FFFFFFFF0000000000000000"));
-    CHECK(declares_to("", words_other_early, 4, 33, "87000300FFFFFFFF0000000000000000"));
-    CHECK(declares_to("", words_other_late, 5, 33, "00000500FFFFFFFF0000000000000000"));
+    CHECK(infers_to(words_held, 5, TRACE_VARIABLES, TRACE_LINE_LENGTH,
+                    "00000500FFFFFFFF0000000000000000", 5, 2));
+    CHECK(infers_to(words_held, 7, TRACE_VARIABLES, TRACE_LINE_LENGTH,
+                    "04000600FFFFFFFF0000000000000002", 5, 2));
+    CHECK(declares_to("00050001\n", words_held, 7, TRACE_LINE_LENGTH,
+                      "01000600FFFFFFFF0000000000000002"));
+    CHECK(declares_to("", words_other, 2, TRACE_LINE_LENGTH, "00000200FFFFFFFF0000000000000000"));
+    CHECK(declares_to("", words_other, 3, TRACE_LINE_LENGTH, "87000200FFFFFFFF0000000000000000"));
+    CHECK(declares_to("", words_other_early, 4, TRACE_LINE_LENGTH,
+                      "87000300FFFFFFFF0000000000000000"));
+    CHECK(declares_to("", words_other_late, 5, TRACE_LINE_LENGTH,
+                      "00000500FFFFFFFF0000000000000000"));
 }
 
 /* 15 takings of a lock, the 16th, 15 releases and one more. */
 static void test_most_holds(void)
 {
-    enum { MOST = 15 };
+    enum { MOST = TRACE_MAX_HOLDS, LINE = TRACE_TEXT_LINE_LENGTH };
     const uint32_t bad[] = {0x09000003, 0x01200003, 0x01000043};
     const char *bad_digits[] = {"84000F00FFFFFFFF0000000000000000",
                                 "85000F00FFFFFFFF0000000000000000",
                                 "86000F00FFFFFFFF0000000000000000"};
     uint32_t words[2 * MOST + 1];
-    char text[9 * (MOST + 1) + 1];
+    char text[LINE * (MOST + 1) + 1];
     for (size_t place = 0; place <= MOST; place++) {
         words[place] = 0x01000003;
-        sprintf(text + 9 * place, "%08X\n", (unsigned)words[place]);
+        sprintf(text + LINE * place, "%08X\n", (unsigned)words[place]);
     }
-    CHECK(checks_to(text, 33, "94000F00FFFFFFFF0000000000000000"));
-    CHECK(checks_to(text + 9, 33, "00000F00FFFFFFFF0000000000000000"));
-    CHECK(declares_to("", words, MOST, 33, "00000F00FFFFFFFF0000000000000000"));
-    CHECK(declares_to("", words, MOST + 1, 33, "94000F00FFFFFFFF0000000000000000"));
-    CHECK(declares_to("04000000\n", words, MOST + 1, 33, "8B000000FFFFFFFF0000000000000000"));
-    CHECK(infers_to(words, MOST, 1024, 33, "00000F00FFFFFFFF0000000000000000", 0, UINT64_MAX));
-    CHECK(infers_to(words, MOST + 1, 1024, 33, "94000F00FFFFFFFF0000000000000000", 0, 0));
-    CHECK(infers_to(words, MOST + 1, 1023, 33, "94000F00FFFFFFFF0000000000000000", 0, 0));
+    CHECK(checks_to(text, TRACE_LINE_LENGTH, "94000F00FFFFFFFF0000000000000000"));
+    CHECK(checks_to(text + LINE, TRACE_LINE_LENGTH, "00000F00FFFFFFFF0000000000000000"));
+    CHECK(declares_to("", words, MOST, TRACE_LINE_LENGTH, "00000F00FFFFFFFF0000000000000000"));
+    CHECK(declares_to("", words, MOST + 1, TRACE_LINE_LENGTH, "94000F00FFFFFFFF0000000000000000"));
+    CHECK(declares_to("04000000\n", words, MOST + 1, TRACE_LINE_LENGTH,
+                      "8B000000FFFFFFFF0000000000000000"));
+    CHECK(infers_to(words, MOST, TRACE_VARIABLES, TRACE_LINE_LENGTH,
+                    "00000F00FFFFFFFF0000000000000000", 0, UINT64_MAX));
+    CHECK(infers_to(words, MOST + 1, TRACE_VARIABLES, TRACE_LINE_LENGTH,
+                    "94000F00FFFFFFFF0000000000000000", 0, 0));
+    CHECK(infers_to(words, MOST + 1, TRACE_VARIABLES - 1, TRACE_LINE_LENGTH,
+                    "94000F00FFFFFFFF0000000000000000", 0, 0));
     CHECK(equals_to(words, MOST, words, MOST, 1));
-    CHECK(equals_to(words, MOST + 1, words, MOST, REFUSAL(20, 15)));
-    CHECK(equals_to(words, MOST, words, MOST + 1, REFUSAL(256 + 20, 15)));
+    CHECK(equals_to(words, MOST + 1, words, MOST, TRACE_REPLY(TRACE_REFUSAL_TOO_MANY_HOLDS, MOST)));
+    CHECK(equals_to(words, MOST, words, MOST + 1,
+                    TRACE_REPLY(TRACE_RIGHT + TRACE_REFUSAL_TOO_MANY_HOLDS, MOST)));
     CHECK(orders_to(NULL, words, MOST, MOST, MOST, words));
-    CHECK(orders_to(NULL, words, MOST + 1, 0, REFUSAL(20, 15), NULL));
-    CHECK(orders_to("", words, MOST + 1, MOST + 1, REFUSAL(20, 15), NULL));
-    CHECK(moves_to("", words, MOST + 1, MOST + 1, REFUSAL(20, 15), NULL));
-    CHECK(writes_to(words, MOST, 9 * MOST, 0, 9 * MOST, text));
-    CHECK(writes_to(words, MOST + 1, 9 * (MOST + 1), 0, REFUSAL(20, 15), NULL));
-    CHECK(writes_to(words, MOST + 1, 0, SIZE_MAX, REFUSAL(20, 15), NULL));
+    CHECK(orders_to(NULL, words, MOST + 1, 0, TRACE_REPLY(TRACE_REFUSAL_TOO_MANY_HOLDS, MOST),
+                    NULL));
+    CHECK(orders_to("", words, MOST + 1, MOST + 1, TRACE_REPLY(TRACE_REFUSAL_TOO_MANY_HOLDS, MOST),
+                    NULL));
+    CHECK(moves_to("", words, MOST + 1, MOST + 1, TRACE_REPLY(TRACE_REFUSAL_TOO_MANY_HOLDS, MOST),
+                   NULL));
+    CHECK(writes_to(words, MOST, LINE * MOST, 0, LINE * MOST, text));
+    CHECK(writes_to(words, MOST + 1, LINE * (MOST + 1), 0,
+                    TRACE_REPLY(TRACE_REFUSAL_TOO_MANY_HOLDS, MOST), NULL));
+    CHECK(writes_to(words, MOST + 1, 0, SIZE_MAX, TRACE_REPLY(TRACE_REFUSAL_TOO_MANY_HOLDS, MOST),
+                    NULL));
     words[MOST] = 0x01010003;
-    CHECK(declares_to("", words, MOST + 1, 33, "87000F00FFFFFFFF0000000000000000"));
+    CHECK(declares_to("", words, MOST + 1, TRACE_LINE_LENGTH, "87000F00FFFFFFFF0000000000000000"));
     for (size_t number = 0; number < COUNT(bad); number++) {
         words[MOST] = bad[number];
-        CHECK(declares_to("", words, MOST + 1, 33, bad_digits[number]));
+        CHECK(declares_to("", words, MOST + 1, TRACE_LINE_LENGTH, bad_digits[number]));
     }
     for (size_t place = MOST; place <= 2 * MOST; place++)
         words[place] = 0x02000003;
-    CHECK(declares_to("", words, 2 * MOST, 33, "00001E00FFFFFFFF0000000000000000"));
-    CHECK(declares_to("", words, 2 * MOST + 1, 33, "88001E00FFFFFFFF0000000000000000"));
+    CHECK(declares_to("", words, 2 * MOST, TRACE_LINE_LENGTH, "00001E00FFFFFFFF0000000000000000"));
+    CHECK(declares_to("", words, 2 * MOST + 1, TRACE_LINE_LENGTH,
+                      "88001E00FFFFFFFF0000000000000000"));
     CHECK(orders_to(NULL, words, 2 * MOST, 2 * MOST, 2 * MOST, words));
     words[2 * MOST] = 0x01010003;
-    CHECK(declares_to("", words, 2 * MOST + 1, 33, "00001F00FFFFFFFF0000000000000000"));
+    CHECK(declares_to("", words, 2 * MOST + 1, TRACE_LINE_LENGTH,
+                      "00001F00FFFFFFFF0000000000000000"));
 }
 
 /* 4,096 frames, one more, and a byte more. */
 static void test_longest(void)
 {
-    enum { MOST = 4096 };
+    enum { MOST = TRACE_MAX_FRAMES, LINE = TRACE_TEXT_LINE_LENGTH };
     uint32_t *words = allocate((MOST + 1) * sizeof *words);
-    char *text = allocate(9 * (MOST + 1) + 1);
+    char *text = allocate(LINE * (MOST + 1) + 1);
     for (size_t place = 0; place <= MOST; place++) {
         words[place] = place % 2 == 0 ? 0x05000000 : 0x06000000;
-        sprintf(text + 9 * place, "%08X\n", (unsigned)words[place]);
+        sprintf(text + LINE * place, "%08X\n", (unsigned)words[place]);
     }
-    CHECK(checks_to(text, 33, "82100000FFFFFFFF0000000000000000"));
-    CHECK(reads_to(text, MOST, REFUSAL(2, 4096), NULL));
-    text[9 * MOST + 1] = '\0';
-    CHECK(checks_to(text, 33, "82100000FFFFFFFF0000000000000000"));
-    CHECK(reads_to(text, MOST, REFUSAL(2, 4096), NULL));
-    text[9 * MOST] = '\0';
-    CHECK(checks_to(text, 33, "00100000FFFFFFFF0000000000000000"));
+    CHECK(checks_to(text, TRACE_LINE_LENGTH, "82100000FFFFFFFF0000000000000000"));
+    CHECK(reads_to(text, MOST, TRACE_REPLY(TRACE_REFUSAL_TOO_MANY_FRAMES, MOST), NULL));
+    text[LINE * MOST + 1] = '\0';
+    CHECK(checks_to(text, TRACE_LINE_LENGTH, "82100000FFFFFFFF0000000000000000"));
+    CHECK(reads_to(text, MOST, TRACE_REPLY(TRACE_REFUSAL_TOO_MANY_FRAMES, MOST), NULL));
+    text[LINE * MOST] = '\0';
+    CHECK(checks_to(text, TRACE_LINE_LENGTH, "00100000FFFFFFFF0000000000000000"));
     CHECK(reads_to(text, MOST, MOST, words));
-    CHECK(reads_to(text, MOST - 1, REFUSAL(3, 4096), NULL));
-    text[9 * MOST - 1] = '\0';
-    CHECK(checks_to(text, 33, "810FFF00FFFFFFFF0000000000000000"));
-    CHECK(declares_to("", words, MOST, 33, "00100000FFFFFFFF0000000000000000"));
-    CHECK(declares_to("", words, MOST + 1, 33, "82100000FFFFFFFF0000000000000000"));
-    CHECK(infers_to(words, MOST, 1024, 33, "00100000FFFFFFFF0000000000000000", 0, UINT64_MAX));
-    CHECK(infers_to(words, MOST + 1, 1024, 33, "82100000FFFFFFFF0000000000000000", 0, 0));
+    CHECK(reads_to(text, MOST - 1, TRACE_REPLY(TRACE_REFUSAL_WORDS_TOO_SHORT, MOST), NULL));
+    text[LINE * MOST - 1] = '\0';
+    CHECK(checks_to(text, TRACE_LINE_LENGTH, "810FFF00FFFFFFFF0000000000000000"));
+    CHECK(declares_to("", words, MOST, TRACE_LINE_LENGTH, "00100000FFFFFFFF0000000000000000"));
+    CHECK(declares_to("", words, MOST + 1, TRACE_LINE_LENGTH, "82100000FFFFFFFF0000000000000000"));
+    CHECK(infers_to(words, MOST, TRACE_VARIABLES, TRACE_LINE_LENGTH,
+                    "00100000FFFFFFFF0000000000000000", 0, UINT64_MAX));
+    CHECK(infers_to(words, MOST + 1, TRACE_VARIABLES, TRACE_LINE_LENGTH,
+                    "82100000FFFFFFFF0000000000000000", 0, 0));
     CHECK(equals_to(words, MOST, words, MOST, 1));
     CHECK(equals_to(words, MOST, words, MOST - 2, 0));
-    CHECK(equals_to(words, MOST + 1, words, MOST, REFUSAL(2, 4096)));
-    CHECK(equals_to(words, MOST, words, MOST + 1, REFUSAL(256 + 2, 4096)));
+    CHECK(equals_to(words, MOST + 1, words, MOST,
+                    TRACE_REPLY(TRACE_REFUSAL_TOO_MANY_FRAMES, MOST)));
+    CHECK(equals_to(words, MOST, words, MOST + 1,
+                    TRACE_REPLY(TRACE_RIGHT + TRACE_REFUSAL_TOO_MANY_FRAMES, MOST)));
     CHECK(orders_to(NULL, words, MOST, MOST, MOST, words));
     CHECK(orders_to("", words, MOST, MOST + 1, MOST, words));
-    CHECK(orders_to(NULL, words, MOST, MOST - 1, REFUSAL(15, 4096), NULL));
-    CHECK(orders_to("", words, MOST + 1, MOST + 1, REFUSAL(2, 4096), NULL));
-    CHECK(moves_to(NULL, words, MOST, MOST - 1, REFUSAL(21, 4096), NULL));
-    CHECK(moves_to(NULL, words, MOST + 1, MOST + 1, REFUSAL(2, 4096), NULL));
-    text[9 * MOST - 1] = '\n';
-    CHECK(writes_to(words, MOST, 9 * MOST, 0, 9 * MOST, text));
-    CHECK(writes_to(words, MOST, 9 * MOST + 5, 3, 9 * MOST, text));
-    CHECK(writes_to(words, MOST, 9 * MOST - 1, 0, REFUSAL(19, 36864), NULL));
-    CHECK(writes_to(words, MOST, 9 * MOST, 1, REFUSAL(19, 36864), NULL));
-    CHECK(writes_to(words, MOST + 1, 9 * MOST + 9, 0, REFUSAL(2, 4096), NULL));
+    CHECK(orders_to(NULL, words, MOST, MOST - 1, TRACE_REPLY(TRACE_REFUSAL_OUTPUT_TOO_SHORT, MOST),
+                    NULL));
+    CHECK(orders_to("", words, MOST + 1, MOST + 1, TRACE_REPLY(TRACE_REFUSAL_TOO_MANY_FRAMES, MOST),
+                    NULL));
+    CHECK(moves_to(NULL, words, MOST, MOST - 1, TRACE_REPLY(TRACE_REFUSAL_MOVES_TOO_SHORT, MOST),
+                   NULL));
+    CHECK(moves_to(NULL, words, MOST + 1, MOST + 1,
+                   TRACE_REPLY(TRACE_REFUSAL_TOO_MANY_FRAMES, MOST), NULL));
+    text[LINE * MOST - 1] = '\n';
+    CHECK(writes_to(words, MOST, LINE * MOST, 0, LINE * MOST, text));
+    CHECK(writes_to(words, MOST, LINE * MOST + 5, 3, LINE * MOST, text));
+    CHECK(writes_to(words, MOST, LINE * MOST - 1, 0,
+                    TRACE_REPLY(TRACE_REFUSAL_TEXT_TOO_SHORT, 36864), NULL));
+    CHECK(writes_to(words, MOST, LINE * MOST, 1, TRACE_REPLY(TRACE_REFUSAL_TEXT_TOO_SHORT, 36864),
+                    NULL));
+    CHECK(writes_to(words, MOST + 1, LINE * (MOST + 1), 0,
+                    TRACE_REPLY(TRACE_REFUSAL_TOO_MANY_FRAMES, MOST), NULL));
     free(text);
     free(words);
 }
@@ -524,67 +571,82 @@ static void test_longest(void)
 int main(void)
 {
     /* trace_check */
-    CHECK(checks_to(text_a, 33, line_a));
-    CHECK(checks_to(text_a, 40, line_a));
-    CHECK(checks_to(text_a, 32, NULL));
+    CHECK(checks_to(text_a, TRACE_LINE_LENGTH, line_a));
+    CHECK(checks_to(text_a, TRACE_LINE_LENGTH + 7, line_a));
+    CHECK(checks_to(text_a, TRACE_LINE_LENGTH - 1, NULL));
     CHECK(checks_to(text_a, 0, NULL));
-    CHECK(checks_to("x", 32, NULL));
-    CHECK(checks_to("", 33, reducible_0));
-    CHECK(checks_to("", 40, reducible_0));
+    CHECK(checks_to("x", TRACE_LINE_LENGTH - 1, NULL));
+    CHECK(checks_to("", TRACE_LINE_LENGTH, reducible_0));
+    CHECK(checks_to("", TRACE_LINE_LENGTH + 7, reducible_0));
     CHECK(checks_to("", 0, NULL));
-    CHECK(checks_to("03000005\n", 33, "04000000FFFFFFFFFFFFFFFFFFFFFFFF"));
-    CHECK(checks_to("01000003\n01010003\n", 40, "87000100FFFFFFFF0000000000000000"));
-    CHECK(checks_to("01000003\n02010003\n", 33, "88000100FFFFFFFF0000000000000000"));
-    CHECK(checks_to("01000003\n01000003\n", 33, "00000200FFFFFFFF0000000000000000"));
-    CHECK(checks_to("01000040\n", 33, "86000000FFFFFFFF0000000000000000"));
-    CHECK(checks_to("01000003", 33, "81000000FFFFFFFF0000000000000000"));
-    CHECK(checks_to("0", 33, "81000000FFFFFFFF0000000000000000"));
-    CHECK(checks_to("FFFFFFFF\n0500000", 33, "81000100FFFFFFFF0000000000000000"));
+    CHECK(checks_to("03000005\n", TRACE_LINE_LENGTH, "04000000FFFFFFFFFFFFFFFFFFFFFFFF"));
+    CHECK(checks_to("01000003\n01010003\n", TRACE_LINE_LENGTH + 7,
+                    "87000100FFFFFFFF0000000000000000"));
+    CHECK(checks_to("01000003\n02010003\n", TRACE_LINE_LENGTH, "88000100FFFFFFFF0000000000000000"));
+    CHECK(checks_to("01000003\n01000003\n", TRACE_LINE_LENGTH, "00000200FFFFFFFF0000000000000000"));
+    CHECK(checks_to("01000040\n", TRACE_LINE_LENGTH, "86000000FFFFFFFF0000000000000000"));
+    CHECK(checks_to("01000003", TRACE_LINE_LENGTH, "81000000FFFFFFFF0000000000000000"));
+    CHECK(checks_to("0", TRACE_LINE_LENGTH, "81000000FFFFFFFF0000000000000000"));
+    CHECK(checks_to("FFFFFFFF\n0500000", TRACE_LINE_LENGTH, "81000100FFFFFFFF0000000000000000"));
 
     /* trace_read */
     CHECK(reads_to(text_a, COUNT(words_a), COUNT(words_a), words_a));
     CHECK(reads_to(text_a, COUNT(words_a) + 3, COUNT(words_a), words_a));
-    CHECK(reads_to(text_a, COUNT(words_a) - 1, REFUSAL(3, 8), NULL));
-    CHECK(reads_to(text_a, 0, REFUSAL(3, 8), NULL));
+    CHECK(reads_to(text_a, COUNT(words_a) - 1, TRACE_REPLY(TRACE_REFUSAL_WORDS_TOO_SHORT, 8),
+                   NULL));
+    CHECK(reads_to(text_a, 0, TRACE_REPLY(TRACE_REFUSAL_WORDS_TOO_SHORT, 8), NULL));
     CHECK(reads_to("", 0, 0, NULL));
     CHECK(reads_to("", 2, 0, NULL));
-    CHECK(reads_to("05000000\n05000000\r\n", 2, REFUSAL(1, 1), NULL));
-    CHECK(reads_to("05000000\n05000000", 2, REFUSAL(1, 1), NULL));
+    CHECK(reads_to("05000000\n05000000\r\n", 2, TRACE_REPLY(TRACE_REFUSAL_MALFORMED_LINE, 1),
+                   NULL));
+    CHECK(reads_to("05000000\n05000000", 2, TRACE_REPLY(TRACE_REFUSAL_MALFORMED_LINE, 1), NULL));
 
     /* trace_guards */
     CHECK(guards_to("", 0));
     CHECK(guards_to("00050002\n03FF003F\n", 2));
-    CHECK(guards_to("00050002\n\n", REFUSAL(1, 1)));
-    CHECK(guards_to("00050002\n00050002", REFUSAL(1, 1)));
-    CHECK(guards_to("04000000\nx", REFUSAL(11, 0)));
-    CHECK(guards_to("00000040\n", REFUSAL(11, 0)));
-    CHECK(guards_to("00050002\n00050003\n", REFUSAL(12, 1)));
+    CHECK(guards_to("00050002\n\n", TRACE_REPLY(TRACE_REFUSAL_MALFORMED_LINE, 1)));
+    CHECK(guards_to("00050002\n00050002", TRACE_REPLY(TRACE_REFUSAL_MALFORMED_LINE, 1)));
+    CHECK(guards_to("04000000\nx", TRACE_REPLY(TRACE_REFUSAL_GUARD_OUT_OF_RANGE, 0)));
+    CHECK(guards_to("00000040\n", TRACE_REPLY(TRACE_REFUSAL_GUARD_OUT_OF_RANGE, 0)));
+    CHECK(guards_to("00050002\n00050003\n", TRACE_REPLY(TRACE_REFUSAL_VARIABLE_ALREADY_NAMED, 1)));
 
     /* trace_declared */
-    CHECK(declares_to("00000000\n00010000\n", words_a, COUNT(words_a), 33, line_a));
-    CHECK(declares_to("", words_e, COUNT(words_e), 40, "02000200000000010000000000000000"));
-    CHECK(declares_to("00050002\n", access_5, 1, 33, "01000000FFFFFFFF0000000000000004"));
-    CHECK(declares_to("", access_5, 1, 33, "00000100FFFFFFFF0000000000000000"));
-    CHECK(declares_to("", access_5, 0, 33, reducible_0));
-    CHECK(declares_to("", words_j, COUNT(words_j), 33, "87000100FFFFFFFF0000000000000000"));
-    CHECK(declares_to("0005000", words_j, COUNT(words_j), 33, "81000000FFFFFFFF0000000000000000"));
-    CHECK(declares_to("04000000\n", words_j, 2, 33, "8B000000FFFFFFFF0000000000000000"));
-    CHECK(declares_to("00050002\n00050002\n", words_j, 2, 33, "8C000100FFFFFFFF0000000000000000"));
-    CHECK(declares_to("x", words_j, COUNT(words_j), 32, NULL));
+    CHECK(declares_to("00000000\n00010000\n", words_a, COUNT(words_a), TRACE_LINE_LENGTH, line_a));
+    CHECK(declares_to("", words_e, COUNT(words_e), TRACE_LINE_LENGTH + 7,
+                      "02000200000000010000000000000000"));
+    CHECK(declares_to("00050002\n", access_5, 1, TRACE_LINE_LENGTH,
+                      "01000000FFFFFFFF0000000000000004"));
+    CHECK(declares_to("", access_5, 1, TRACE_LINE_LENGTH, "00000100FFFFFFFF0000000000000000"));
+    CHECK(declares_to("", access_5, 0, TRACE_LINE_LENGTH, reducible_0));
+    CHECK(declares_to("", words_j, COUNT(words_j), TRACE_LINE_LENGTH,
+                      "87000100FFFFFFFF0000000000000000"));
+    CHECK(declares_to("0005000", words_j, COUNT(words_j), TRACE_LINE_LENGTH,
+                      "81000000FFFFFFFF0000000000000000"));
+    CHECK(declares_to("04000000\n", words_j, 2, TRACE_LINE_LENGTH,
+                      "8B000000FFFFFFFF0000000000000000"));
+    CHECK(declares_to("00050002\n00050002\n", words_j, 2, TRACE_LINE_LENGTH,
+                      "8C000100FFFFFFFF0000000000000000"));
+    CHECK(declares_to("x", words_j, COUNT(words_j), TRACE_LINE_LENGTH - 1, NULL));
     CHECK(declares_to("", words_a, COUNT(words_a), 0, NULL));
 
     /* trace_inferred */
-    CHECK(infers_to(words_a, COUNT(words_a), 1024, 33, line_a, 0, 1));
-    CHECK(infers_to(words_a, COUNT(words_a), 1030, 40, line_a, 0, 1));
-    CHECK(infers_to(words_a, 0, 1024, 33, reducible_0, 0, UINT64_MAX));
-    CHECK(infers_to(words_shared, 6, 1024, 33, "00000600FFFFFFFF0000000000000000", 5, 4));
-    CHECK(infers_to(words_shared, 8, 1024, 33, "04000700FFFFFFFF0000000000000004", 5, 4));
-    CHECK(infers_to(words_j, COUNT(words_j), 1024, 33, "87000100FFFFFFFF0000000000000000", 0, 0));
-    CHECK(infers_to(words_j, COUNT(words_j), 0, 33, "87000100FFFFFFFF0000000000000000", 0, 0));
-    CHECK(infers_to(words_a, COUNT(words_a), 1023, 33, "90040000FFFFFFFF0000000000000000", 0, 0));
-    CHECK(infers_to(words_a, 0, 0, 33, "90040000FFFFFFFF0000000000000000", 0, 0));
-    CHECK(infers_to(words_a, COUNT(words_a), 1024, 32, NULL, 0, 0));
-    CHECK(infers_to(words_j, COUNT(words_j), 1023, 0, NULL, 0, 0));
+    CHECK(infers_to(words_a, COUNT(words_a), TRACE_VARIABLES, TRACE_LINE_LENGTH, line_a, 0, 1));
+    CHECK(infers_to(words_a, COUNT(words_a), TRACE_VARIABLES + 6, TRACE_LINE_LENGTH + 7, line_a, 0,
+                    1));
+    CHECK(infers_to(words_a, 0, TRACE_VARIABLES, TRACE_LINE_LENGTH, reducible_0, 0, UINT64_MAX));
+    CHECK(infers_to(words_shared, 6, TRACE_VARIABLES, TRACE_LINE_LENGTH,
+                    "00000600FFFFFFFF0000000000000000", 5, 4));
+    CHECK(infers_to(words_shared, 8, TRACE_VARIABLES, TRACE_LINE_LENGTH,
+                    "04000700FFFFFFFF0000000000000004", 5, 4));
+    CHECK(infers_to(words_j, COUNT(words_j), TRACE_VARIABLES, TRACE_LINE_LENGTH,
+                    "87000100FFFFFFFF0000000000000000", 0, 0));
+    CHECK(infers_to(words_j, COUNT(words_j), 0, TRACE_LINE_LENGTH,
+                    "87000100FFFFFFFF0000000000000000", 0, 0));
+    CHECK(infers_to(words_a, COUNT(words_a), TRACE_VARIABLES - 1, TRACE_LINE_LENGTH,
+                    "90040000FFFFFFFF0000000000000000", 0, 0));
+    CHECK(infers_to(words_a, 0, 0, TRACE_LINE_LENGTH, "90040000FFFFFFFF0000000000000000", 0, 0));
+    CHECK(infers_to(words_a, COUNT(words_a), TRACE_VARIABLES, TRACE_LINE_LENGTH - 1, NULL, 0, 0));
+    CHECK(infers_to(words_j, COUNT(words_j), TRACE_VARIABLES - 1, 0, NULL, 0, 0));
 
     /* trace_equal */
     CHECK(equals_to(words_h, 2, reverse_h, 2, 1));
@@ -599,42 +661,62 @@ int main(void)
     CHECK(equals_to(words_c, COUNT(words_c), serial_c, COUNT(serial_c), 1));
     CHECK(equals_to(words_c, COUNT(words_c), serial_c, COUNT(serial_c) - 1, 0));
     CHECK(equals_to(words_c, 0, serial_c, 0, 1));
-    CHECK(equals_to(words_j, COUNT(words_j), words_c, 0, REFUSAL(7, 1)));
-    CHECK(equals_to(words_c, 0, words_j, COUNT(words_j), REFUSAL(256 + 7, 1)));
-    CHECK(equals_to(words_j, COUNT(words_j), words_j, COUNT(words_j), REFUSAL(7, 1)));
+    CHECK(equals_to(words_j, COUNT(words_j), words_c, 0,
+                    TRACE_REPLY(TRACE_REFUSAL_LOCK_HELD_BY_OTHER, 1)));
+    CHECK(equals_to(words_c, 0, words_j, COUNT(words_j),
+                    TRACE_REPLY(TRACE_RIGHT + TRACE_REFUSAL_LOCK_HELD_BY_OTHER, 1)));
+    CHECK(equals_to(words_j, COUNT(words_j), words_j, COUNT(words_j),
+                    TRACE_REPLY(TRACE_REFUSAL_LOCK_HELD_BY_OTHER, 1)));
 
     /* trace_serial_inferred and trace_serial_declared */
     CHECK(orders_to(NULL, words_c, COUNT(words_c), COUNT(words_c), COUNT(words_c), serial_c));
     CHECK(orders_to(NULL, words_c, COUNT(words_c), COUNT(words_c) + 3, COUNT(words_c), serial_c));
-    CHECK(orders_to(NULL, words_c, COUNT(words_c), COUNT(words_c) - 1, REFUSAL(15, 10), NULL));
-    CHECK(orders_to(NULL, words_c, COUNT(words_c), 0, REFUSAL(15, 10), NULL));
+    CHECK(orders_to(NULL, words_c, COUNT(words_c), COUNT(words_c) - 1,
+                    TRACE_REPLY(TRACE_REFUSAL_OUTPUT_TOO_SHORT, 10), NULL));
+    CHECK(orders_to(NULL, words_c, COUNT(words_c), 0,
+                    TRACE_REPLY(TRACE_REFUSAL_OUTPUT_TOO_SHORT, 10), NULL));
     CHECK(orders_to("00000000\n", words_c, COUNT(words_c), 10, 10, serial_c));
-    CHECK(orders_to("00000000\n", words_c, COUNT(words_c), 9, REFUSAL(15, 10), NULL));
-    CHECK(orders_to("00000000", words_c, COUNT(words_c), 10, REFUSAL(1, 0), NULL));
-    CHECK(orders_to("04000000\n", words_j, COUNT(words_j), 10, REFUSAL(11, 0), NULL));
-    CHECK(orders_to("00050002\n00050002\n", words_j, 2, 2, REFUSAL(12, 1), NULL));
-    CHECK(orders_to("", words_j, COUNT(words_j), 1, REFUSAL(7, 1), NULL));
-    CHECK(orders_to("", words_e, COUNT(words_e), 3, REFUSAL(13, 2), NULL));
-    CHECK(orders_to(NULL, words_a, COUNT(words_a), 8, REFUSAL(13, 4), NULL));
-    CHECK(orders_to(NULL, begin_alone, 1, 0, REFUSAL(14, 0), NULL));
-    CHECK(orders_to("", begin_alone, 1, 1, REFUSAL(14, 0), NULL));
+    CHECK(orders_to("00000000\n", words_c, COUNT(words_c), 9,
+                    TRACE_REPLY(TRACE_REFUSAL_OUTPUT_TOO_SHORT, 10), NULL));
+    CHECK(orders_to("00000000", words_c, COUNT(words_c), 10,
+                    TRACE_REPLY(TRACE_REFUSAL_MALFORMED_LINE, 0), NULL));
+    CHECK(orders_to("04000000\n", words_j, COUNT(words_j), 10,
+                    TRACE_REPLY(TRACE_REFUSAL_GUARD_OUT_OF_RANGE, 0), NULL));
+    CHECK(orders_to("00050002\n00050002\n", words_j, 2, 2,
+                    TRACE_REPLY(TRACE_REFUSAL_VARIABLE_ALREADY_NAMED, 1), NULL));
+    CHECK(orders_to("", words_j, COUNT(words_j), 1,
+                    TRACE_REPLY(TRACE_REFUSAL_LOCK_HELD_BY_OTHER, 1), NULL));
+    CHECK(orders_to("", words_e, COUNT(words_e), 3, TRACE_REPLY(TRACE_REFUSAL_NOT_REDUCIBLE, 2),
+                    NULL));
+    CHECK(orders_to(NULL, words_a, COUNT(words_a), 8, TRACE_REPLY(TRACE_REFUSAL_NOT_REDUCIBLE, 4),
+                    NULL));
+    CHECK(orders_to(NULL, begin_alone, 1, 0, TRACE_REPLY(TRACE_REFUSAL_BLOCK_STILL_OPEN, 0), NULL));
+    CHECK(orders_to("", begin_alone, 1, 1, TRACE_REPLY(TRACE_REFUSAL_BLOCK_STILL_OPEN, 0), NULL));
     CHECK(orders_to(NULL, words_c, 0, 0, 0, NULL));
     CHECK(orders_to("", words_c, 0, 2, 0, NULL));
 
     /* trace_moves_inferred and trace_moves_declared */
     CHECK(moves_to(NULL, words_c, COUNT(words_c), COUNT(words_c), COUNT(words_c), moves_c));
     CHECK(moves_to(NULL, words_c, COUNT(words_c), COUNT(words_c) + 3, COUNT(words_c), moves_c));
-    CHECK(moves_to(NULL, words_c, COUNT(words_c), COUNT(words_c) - 1, REFUSAL(21, 10), NULL));
-    CHECK(moves_to(NULL, words_c, COUNT(words_c), 0, REFUSAL(21, 10), NULL));
+    CHECK(moves_to(NULL, words_c, COUNT(words_c), COUNT(words_c) - 1,
+                   TRACE_REPLY(TRACE_REFUSAL_MOVES_TOO_SHORT, 10), NULL));
+    CHECK(moves_to(NULL, words_c, COUNT(words_c), 0, TRACE_REPLY(TRACE_REFUSAL_MOVES_TOO_SHORT, 10),
+                   NULL));
     CHECK(moves_to("00000000\n", words_c, COUNT(words_c), 10, 10, moves_c));
-    CHECK(moves_to("00000000\n", words_c, COUNT(words_c), 9, REFUSAL(21, 10), NULL));
-    CHECK(moves_to("00000000", words_c, COUNT(words_c), 10, REFUSAL(1, 0), NULL));
-    CHECK(moves_to("04000000\n", words_j, COUNT(words_j), 10, REFUSAL(11, 0), NULL));
-    CHECK(moves_to("", words_j, COUNT(words_j), 1, REFUSAL(7, 1), NULL));
-    CHECK(moves_to("", words_e, COUNT(words_e), 3, REFUSAL(13, 2), NULL));
-    CHECK(moves_to(NULL, words_a, COUNT(words_a), 0, REFUSAL(13, 4), NULL));
-    CHECK(moves_to(NULL, begin_alone, 1, 0, REFUSAL(14, 0), NULL));
-    CHECK(moves_to("", begin_alone, 1, 1, REFUSAL(14, 0), NULL));
+    CHECK(moves_to("00000000\n", words_c, COUNT(words_c), 9,
+                   TRACE_REPLY(TRACE_REFUSAL_MOVES_TOO_SHORT, 10), NULL));
+    CHECK(moves_to("00000000", words_c, COUNT(words_c), 10,
+                   TRACE_REPLY(TRACE_REFUSAL_MALFORMED_LINE, 0), NULL));
+    CHECK(moves_to("04000000\n", words_j, COUNT(words_j), 10,
+                   TRACE_REPLY(TRACE_REFUSAL_GUARD_OUT_OF_RANGE, 0), NULL));
+    CHECK(moves_to("", words_j, COUNT(words_j), 1, TRACE_REPLY(TRACE_REFUSAL_LOCK_HELD_BY_OTHER, 1),
+                   NULL));
+    CHECK(moves_to("", words_e, COUNT(words_e), 3, TRACE_REPLY(TRACE_REFUSAL_NOT_REDUCIBLE, 2),
+                   NULL));
+    CHECK(moves_to(NULL, words_a, COUNT(words_a), 0, TRACE_REPLY(TRACE_REFUSAL_NOT_REDUCIBLE, 4),
+                   NULL));
+    CHECK(moves_to(NULL, begin_alone, 1, 0, TRACE_REPLY(TRACE_REFUSAL_BLOCK_STILL_OPEN, 0), NULL));
+    CHECK(moves_to("", begin_alone, 1, 1, TRACE_REPLY(TRACE_REFUSAL_BLOCK_STILL_OPEN, 0), NULL));
     CHECK(moves_to(NULL, words_c, 0, 0, 0, NULL));
     CHECK(moves_to("", words_c, 0, 2, 0, NULL));
 
