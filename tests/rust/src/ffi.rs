@@ -1,4 +1,4 @@
-//! The static archives under test, with a safe wrapper for each call.
+//! The archive under test, with a safe wrapper for each call.
 #![allow(dead_code)]
 
 use trace_tests::case::Implementation;
@@ -42,10 +42,6 @@ extern "C" {
         line: *mut u8,
         line_len: usize,
     ) -> u8;
-}
-
-#[link(name = "traceorder", kind = "static")]
-extern "C" {
     fn trace_equal(left: *const u32, left_len: usize, right: *const u32, right_len: usize) -> u64;
     fn trace_serial_declared(
         list: *const u8,
@@ -75,10 +71,6 @@ extern "C" {
         moves: *mut i32,
         moves_len: usize,
     ) -> u64;
-}
-
-#[link(name = "tracetext", kind = "static")]
-extern "C" {
     fn trace_write(
         words: *const u32,
         words_len: usize,
