@@ -18,14 +18,21 @@ same [] (y ∷ ys) = false
 same (x ∷ xs) [] = false
 same (x ∷ xs) (y ∷ ys) = cond (eqb x y) (same xs ys) false
 
+-- "tracetool help, --help or -h prints the help; tracetool --version the version."
+unfoldable pub otherWord : List ℕ → Command
+otherWord w =
+    cond (same w (bytes "help")) command.Help
+    (cond (same w (bytes "--help")) command.Help
+    (cond (same w (bytes "-h")) command.Help (cond (same w (bytes "--version")) command.Version command.Unknown)))
+
 unfoldable pub commandOf : List ℕ → Command
 commandOf w =
     cond (same w (bytes "verdict")) command.Verdict
     (cond (same w (bytes "serial")) command.Serial
     (cond (same w (bytes "moves")) command.Moves
+    (cond (same w (bytes "draw")) command.Draw
     (cond (same w (bytes "explain")) command.Explain
-    (cond (same w (bytes "equal")) command.Equal
-    (cond (same w (bytes "line")) command.Line command.Unknown)))))
+    (cond (same w (bytes "equal")) command.Equal (cond (same w (bytes "line")) command.Line (otherWord w)))))))
 
 -- "RECORDING [--guards LIST]": n words in all, the program's name and the command among them.
 unfoldable pub judging : Command → ℕ → List ℕ → Request
@@ -37,9 +44,12 @@ abbrev pub requested : Command → ℕ → List ℕ → Request
 requested command.Verdict n option = judging command.Verdict n option
 requested command.Serial n option = judging command.Serial n option
 requested command.Moves n option = judging command.Moves n option
+requested command.Draw n option = judging command.Draw n option
 requested command.Explain n option = judging command.Explain n option
 requested command.Equal n option = cond (eqb n 4) request.Compare (request.Misused command.Equal)
 requested command.Line n option = cond (eqb n 3) request.Line (request.Misused command.Line)
+requested command.Help n option = request.Help
+requested command.Version n option = request.Version
 requested command.Unknown n option = request.Unknown
 
 -- Of n words, the command and the word in the place of "--guards".

@@ -1,21 +1,25 @@
 // What the words of a command line ask for.
 use guards::Judgement;
 ghost use mathlib.Core.Path.{_≡_};
-ghost use Rattle.command.specs.Command.{same as sameText, commandOf, judging, requestOf};
+ghost use Rattle.command.specs.Command.{same as sameText, otherWord, commandOf, judging, requestOf};
 
 pub enum Command {
     Verdict,
     Serial,
     Moves,
+    Draw,
     Explain,
     Equal,
     Line,
+    Help,
+    Version,
     Unknown,
 }
 
-// Help, no such command, a command with the wrong words, a judgement, a comparison, or a kept line.
+// Help, the version, no such command, a command with the wrong words, a judgement, a comparison, or a kept line.
 pub enum Request {
     Help,
+    Version,
     Unknown,
     Misused(Command),
     Judge(Command, Judgement),
@@ -40,6 +44,25 @@ pub fn same(a: &[u8], b: &[u8]) -> bool
     true
 }
 
+// A word that names no command on files or lines.
+fn other_word(word: &[u8]) -> Command
+    ensures { λ r. ⌜ r ≡ otherWord (now (word .entry)) ⌝ }
+{
+    if same(word, b"help") {
+        return Command::Help;
+    }
+    if same(word, b"--help") {
+        return Command::Help;
+    }
+    if same(word, b"-h") {
+        return Command::Help;
+    }
+    if same(word, b"--version") {
+        return Command::Version;
+    }
+    Command::Unknown
+}
+
 pub fn command_of(word: &[u8]) -> Command
     ensures { λ r. ⌜ r ≡ commandOf (now (word .entry)) ⌝ }
 {
@@ -52,6 +75,9 @@ pub fn command_of(word: &[u8]) -> Command
     if same(word, b"moves") {
         return Command::Moves;
     }
+    if same(word, b"draw") {
+        return Command::Draw;
+    }
     if same(word, b"explain") {
         return Command::Explain;
     }
@@ -61,7 +87,7 @@ pub fn command_of(word: &[u8]) -> Command
     if same(word, b"line") {
         return Command::Line;
     }
-    Command::Unknown
+    other_word(word)
 }
 
 // A command on one recording, with n words in all.
@@ -91,6 +117,7 @@ pub fn request_of(n: usize, word: &[u8], option: &[u8]) -> Request
         Command::Verdict => judge(Command::Verdict, n, option),
         Command::Serial => judge(Command::Serial, n, option),
         Command::Moves => judge(Command::Moves, n, option),
+        Command::Draw => judge(Command::Draw, n, option),
         Command::Explain => judge(Command::Explain, n, option),
         Command::Equal => {
             if n == 4 {
@@ -104,6 +131,8 @@ pub fn request_of(n: usize, word: &[u8], option: &[u8]) -> Request
             }
             Request::Misused(Command::Line)
         }
+        Command::Help => Request::Help,
+        Command::Version => Request::Version,
         Command::Unknown => Request::Unknown,
     }
 }

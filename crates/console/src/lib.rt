@@ -2,7 +2,14 @@
 use command::Command;
 use command::Request;
 use frame::MOST;
+use libc::EACCES;
+use libc::EISDIR;
+use libc::ENAMETOOLONG;
+use libc::ENOENT;
+use libc::ENOTDIR;
+use libc::EPERM;
 use libc::STDOUT_FILENO;
+use output::put_decimal;
 use text::MOST_BYTES;
 ghost use mathlib.Core.Path.{_≡_};
 ghost use Prim.Native.Nat.{_+_, _≤_};
@@ -42,6 +49,12 @@ pub fn print(text: &[u8]) {
     io::write_all(STDOUT_FILENO, text);
 }
 
+pub fn print_number(n: u64) {
+    let mut number = [0u8; 20];
+    let k = put_decimal(&mut number, 0, n);
+    print(&number[..k]);
+}
+
 // The line of bad use.
 fn complain(what: &[u8], name: &[u8]) {
     print(what);
@@ -54,12 +67,21 @@ fn help() {
         b"usage: tracetool verdict RECORDING [--guards LIST]   the verdict line
        tracetool serial RECORDING [--guards LIST]    the serial order as lines
        tracetool moves RECORDING [--guards LIST]     how far each frame moves to its place in the serial order
+       tracetool draw RECORDING [--guards LIST]      the recording as a picture (SVG)
        tracetool equal LEFT RIGHT                    equal, or not equal
        tracetool explain RECORDING [--guards LIST]   the answer in words
        tracetool line LINE                           a kept verdict line in words
+       tracetool help                                this list
+       tracetool --version                           the version
 Guards are inferred without --guards, and declared with it. The first word printed says how it went.
 ",
     );
+}
+
+// No such command, and those that there are.
+fn unknown(word: &[u8]) {
+    complain(b"error: no such command: ", word);
+    print(b"commands: verdict, serial, moves, draw, equal, explain, line, help\n");
 }
 
 // How a command is used. The word is its name.
@@ -73,11 +95,12 @@ fn misused(c: Command, word: &[u8]) {
     }
 }
 
-// Help, or what is wrong with the words.
+// Help, the version, or what is wrong with the words.
 fn say(r: Request, word: &[u8]) {
     match r {
         Request::Help => help(),
-        Request::Unknown => complain(b"error: no such command: ", word),
+        Request::Version => print(b"tracetool 1.0.0\n"),
+        Request::Unknown => unknown(word),
         Request::Misused(c) => misused(c, word),
         _ => {}
     }
@@ -116,25 +139,66 @@ fn read_all(fd: i32, buf: &mut [u8]) -> usize
     }
 }
 
-// Why a file cannot be read.
-fn unreadable(name: &[u8]) {
-    if name.len() == 0 {
-        complain(b"error: a file name is empty", name)
+// A number of an error; none is below 0.
+fn error_number(e: i32) -> u64 {
+    let v = e as i64;
+    if v < 0 {
+        return 0;
+    }
+    v as u64
+}
+
+// An error that has no words of its own.
+fn other_error(e: i32) {
+    print(b": error number ");
+    print_number(error_number(e));
+    print(b" of the system\n");
+}
+
+// An error of opening or reading a file in words.
+fn reason(e: i32) {
+    if e == ENOENT {
+        print(b": no such file\n");
+    } else if e == ENOTDIR {
+        print(b": no such file\n");
+    } else if e == EISDIR {
+        print(b": it is a directory\n");
+    } else if e == EACCES {
+        print(b": no permission\n");
+    } else if e == EPERM {
+        print(b": no permission\n");
+    } else if e == ENAMETOOLONG {
+        print(b": the name is too long\n");
     } else {
-        complain(b"error: cannot read ", name)
+        other_error(e);
     }
 }
 
-// The first bytes of the file of a name: how many, or one more than the buffer has where it cannot be read, which is said. What cannot be
-// opened cannot be read.
+// Why a file cannot be read.
+fn unreadable(name: &[u8], e: i32) {
+    if name.len() == 0 {
+        print(b"error: a file name is empty\n");
+    } else {
+        print(b"error: cannot read ");
+        print(name);
+        reason(e);
+    }
+}
+
+// The first bytes of the file of a name: how many, or one more than the buffer has where it cannot be opened or read, which is said.
 fn load(name: &[u8], buf: &mut [u8]) -> usize
     ensures { λ r. ⌜ r ≤ length (now (buf .exit)) + 1 ⌝ }
 {
     let fd = os::open_read(name);
+    if fd < 0 {
+        unreadable(name, os::errno());
+        return buf.len() + 1;
+    }
     let n = read_all(fd, buf);
+    let e = os::errno();
     libc::close(fd);
     if buf.len() < n {
-        unreadable(name);
+        unreadable(name, e);
     }
     n
 }

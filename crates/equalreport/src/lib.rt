@@ -3,6 +3,7 @@ use equal::EqualReply;
 use equal::Side;
 use frame::MOST;
 use frame::Refused;
+use linefault::explain_unread;
 use opening::Opened;
 use output::put_text;
 use phrase::Source;
@@ -46,7 +47,7 @@ fn put_right(left: &[u32], text: &[u8], out: &mut [u8]) -> usize
             let k = n as usize;
             put_equal(left, &words[..k], out)
         }
-        Opened::Refused(s, x) => explain_refusal(out, 0, s, &words[..0], x),
+        Opened::Refused(s, x) => explain_unread(out, s, text, text, x),
     }
 }
 
@@ -74,6 +75,6 @@ pub fn equal_report(left: &[u8], right: &[u8], out: &mut [u8]) -> usize
             let k = n as usize;
             put_left(&words[..k], right, out)
         }
-        Opened::Refused(s, x) => explain_refusal(out, 0, s, &words[..0], x),
+        Opened::Refused(s, x) => explain_unread(out, s, left, left, x),
     }
 }

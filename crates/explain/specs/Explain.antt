@@ -2,7 +2,9 @@
 -- What the slots of a sentence stand for is said by `piece` (crate sentence).
 use Prim.Native.Nat.{ℕ}
 use Prim.Native.String.{String}
+use mathlib.Core.Bool.{cond}
 use mathlib.Core.List.{List}
+use lib.Dec.{eqb}
 use Rattle.frame.specs.declared.Refused.{Refused}
 use Rattle.reply.specs.declared.Verdict.{Verdict}
 use Rattle.reply.specs.declared.Verdict.the-variants as verdict
@@ -15,11 +17,12 @@ use Rattle.facts.specs.Facts.{placeFacts, violationFacts}
 use Rattle.refusaltext.specs.RefusalText.{refusalText}
 use Rattle.violationtext.specs.ViolationText.{violationText}
 
-abbrev pub reducibleSentence : String
-reducibleSentence = "reducible: no frame goes wrong; frames: #.\n"
+-- A recording of n frames.
+abbrev pub reducibleSentence : ℕ → String
+reducibleSentence n = cond (eqb n 0) "reducible: there is nothing in %; frames: #.\n" "reducible: no frame goes wrong; frames: #.\n"
 
 abbrev pub verdictText : Source → List ℕ → Verdict → ℕ → List ℕ
-verdictText s ws verdict.Reducible n = filled (placeFacts s ws n) (bytes reducibleSentence)
+verdictText s ws verdict.Reducible n = filled (placeFacts s ws n) (bytes (reducibleSentence n))
 verdictText s ws (verdict.Violated v) n = violationText (violationFacts s ws v) v
 
 -- The answer to a recording of n frames, in words.

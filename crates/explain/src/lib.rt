@@ -26,6 +26,14 @@ pub fn explain(
         Reply::Judged(v) => match v {
             Verdict::Reducible => {
                 let f = facts::place_facts(source, words, frames);
+                if frames == 0 {
+                    return say(
+                        out,
+                        at,
+                        b"reducible: there is nothing in %; frames: #.\n",
+                        f,
+                    );
+                }
                 say(out, at, b"reducible: no frame goes wrong; frames: #.\n", f)
             }
             Verdict::Violated(w) => {

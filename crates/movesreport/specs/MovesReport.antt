@@ -17,6 +17,7 @@ use Rattle.digits.specs.Digits.{wordLine}
 use Rattle.output.specs.Output.{signed}
 use Rattle.phrase.specs.declared.Source.the-variants as source
 use Rattle.refusaltext.specs.RefusalText.{refusalText}
+use Rattle.linefault.specs.LineFault.{unreadText}
 use Rattle.opening.specs.declared.Opened.{Opened}
 use Rattle.opening.specs.declared.Opened.the-variants as opened
 use Rattle.opening.specs.Opening.{opening}
@@ -39,7 +40,7 @@ movesText (order.Refused x) words ds = refusalText source.Recording words x
 abbrev pub movesOpened : Opened → Judgement → List ℕ → List ℕ → List ℕ
 movesOpened (opened.Frames n) j list s =
     movesText (movesUnder j list (wordsTo s n) mostFrames) (wordsTo s n) (displacements (guardsUnder j list .table) (wordsTo s n))
-movesOpened (opened.Refused f x) j list s = refusalText f [] x
+movesOpened (opened.Refused f x) j list s = unreadText f list s x
 
 abbrev pub movesReport : Judgement → List ℕ → List ℕ → List ℕ
 movesReport j list s = movesOpened (opening j list s) j list s

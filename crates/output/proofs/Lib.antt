@@ -1,3 +1,3 @@
--- Laws of written text that crates above cite, and of signed numbers.
+-- Laws of written text and of signed numbers, which crates above cite.
 pub mod Laws
-mod Signed
+pub mod Signed

@@ -61,7 +61,7 @@ pub fn put_decimal(out: &mut [u8], at: usize, n: u64) -> usize
 }
 
 // The absolute value of a number.
-fn absolute(n: i32) -> u64
+pub fn absolute(n: i32) -> u64
     ensures { λ r. ⌜ r ≡ natAbs n ⌝ }
 {
     let v = n as i64;

@@ -12,8 +12,8 @@ use Rattle.sentence.specs.Sentence.{known, filled}
 use Rattle.phrase.specs.declared.Source.{Source}
 use Rattle.facts.specs.Facts.{placeFacts}
 
--- The sentence of a refusal, and whether its frame is known: some have two, "refusals that name an action or a thread where the recording is
--- at hand" (docs/TOOL.md).
+-- The sentence of a refusal, and whether its frame is known: some have two, "refusals that name a byte, an action or a thread where the
+-- recording is at hand" (docs/TOOL.md). Refusal 1 of a text that is at hand has its sentence in crate linefault.
 abbrev pub refusalSentence : Refusal → Bool → String
 refusalSentence refusal.Line k =
     "refused: number 1, @ of % is not eight digits 0-9 A-F and one LF; write it so, without blanks, lower case or CR, and end the last line.\n"

@@ -38,7 +38,7 @@ use Rattle.kept.specs.declared.Kept.{Kept}
 use Rattle.kept.specs.declared.Kept.the-variants as kept
 use Rattle.linereport.specs.LineReport.{sourceOf, otherText, keptText, lineRead, lineReport}
 use Rattle.report.proofs.Texts.{plain, joined, decimal-within}
-use Rattle.report.proofs.Answers.{refusal-fits, explanation-fits}
+use Rattle.report.proofs.Answers.{refusal-fits, unread-fits, explanation-fits}
 use Rattle.opening.specs.Opening.{openedRead, onList, opening}
 use Rattle.verdictreport.specs.VerdictReport.{verdictOpened, verdictReport, explainOpened, explainReport}
 use Rattle.serialreport.specs.SerialReport.{serialOpened, serialReport}
@@ -61,7 +61,7 @@ explain-fits j list s = go (opening j list s)
   where
     go : (o : Opened) → length (explainOpened o j list s) ≤ mostBytes
     go (opened.Frames n) = omega (arith, explanation-fits source.Recording (wordsTo s n) (verdictUnder j list (wordsTo s n)) n)
-    go (opened.Refused f x) = omega (arith, refusal-fits f [] x)
+    go (opened.Refused f x) = omega (arith, unread-fits f list s x)
 
 -- what is printed of a recording that is opened
 opened-fits : (j : Judgement) (list s : List ℕ) (text : Opened → List ℕ) (most : ℕ)
@@ -78,12 +78,12 @@ opened-fits j list s text most frames refused = go (guardsUnder j list .reply) (
 pub serial-fits : (j : Judgement) (list s : List ℕ) → length (serialReport j list s) ≤ mostBytes
 serial-fits j list s =
     opened-fits j list s (λ o. serialOpened o j list s) mostBytes
-    (λ n h. order-fits (orderUnder j list (wordsTo s n) mostFrames) (guardsUnder j list .table) (wordsTo s n) h) (λ f x. omega (arith, refusal-fits f [] x))
+    (λ n h. order-fits (orderUnder j list (wordsTo s n) mostFrames) (guardsUnder j list .table) (wordsTo s n) h) (λ f x. omega (arith, unread-fits f list s x))
 
 pub moves-report-fits : (j : Judgement) (list s : List ℕ) → length (movesReport j list s) ≤ mostAnswer
 moves-report-fits j list s =
     opened-fits j list s (λ o. movesOpened o j list s) mostAnswer
-    (λ n h. moves-fit (movesUnder j list (wordsTo s n) mostFrames) (guardsUnder j list .table) (wordsTo s n) h) (λ f x. omega (arith, refusal-fits f [] x))
+    (λ n h. moves-fit (movesUnder j list (wordsTo s n) mostFrames) (guardsUnder j list .table) (wordsTo s n) h) (λ f x. omega (arith, unread-fits f list s x))
 
 equal-text : (q : EqualReply) (l r : List ℕ) → length (equalText q l r) ≤ mostBytes
 unfolding bytes
@@ -94,7 +94,7 @@ equal-text (equal.Refused side.Right x) l r = omega (arith, refusal-fits source.
 
 right-fits : (o : Opened) (l s : List ℕ) → length (rightOpened o l s) ≤ mostBytes
 right-fits (opened.Frames n) l s = equal-text (equalReply l (wordsTo s n)) l (wordsTo s n)
-right-fits (opened.Refused f x) l s = omega (arith, refusal-fits f [] x)
+right-fits (opened.Refused f x) l s = omega (arith, unread-fits f s s x)
 
 left-fits : (q : CheckReply) (l s : List ℕ) → length (leftChecked q l s) ≤ mostBytes
 left-fits check.Sound l s = right-fits (openedRead source.Right (scanned s)) l s
@@ -105,7 +105,7 @@ equal-fits l r = go (openedRead source.Left (scanned l))
   where
     go : (o : Opened) → length (leftOpened o l r) ≤ mostBytes
     go (opened.Frames n) = left-fits (checkReply (wordsTo l n)) (wordsTo l n) r
-    go (opened.Refused f x) = omega (arith, refusal-fits f [] x)
+    go (opened.Refused f x) = omega (arith, unread-fits f l l x)
 
 other-fits : (n p : ℕ) → length (otherText n p) ≤ mostBytes
 unfolding bytes

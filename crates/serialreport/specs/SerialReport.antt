@@ -1,6 +1,6 @@
 -- The serial order as the tool prints it, written into a lent buffer as far as there is room; the reply is the number of bytes written.
 use Prim.Native.Nat.{ℕ}
-use mathlib.Core.List.{List, []}
+use mathlib.Core.List.{List}
 use Rattle.frame.specs.Limits.{mostFrames}
 use Rattle.frame.specs.declared.Refused.{Refused}
 use Rattle.text.specs.Text.{wordsTo}
@@ -13,6 +13,7 @@ use Rattle.order.specs.declared.OrderReply.the-variants as order
 use Rattle.digits.specs.Digits.{linesOf}
 use Rattle.phrase.specs.declared.Source.the-variants as source
 use Rattle.refusaltext.specs.RefusalText.{refusalText}
+use Rattle.linefault.specs.LineFault.{unreadText}
 use Rattle.opening.specs.declared.Opened.{Opened}
 use Rattle.opening.specs.declared.Opened.the-variants as opened
 use Rattle.opening.specs.Opening.{opening}
@@ -25,7 +26,7 @@ orderText (order.Refused x) words serial = refusalText source.Recording words x
 abbrev pub serialOpened : Opened → Judgement → List ℕ → List ℕ → List ℕ
 serialOpened (opened.Frames n) j list s =
     orderText (orderUnder j list (wordsTo s n) mostFrames) (wordsTo s n) (serialWords (guardsUnder j list .table) (wordsTo s n))
-serialOpened (opened.Refused f x) j list s = refusalText f [] x
+serialOpened (opened.Refused f x) j list s = unreadText f list s x
 
 abbrev pub serialReport : Judgement → List ℕ → List ℕ → List ℕ
 serialReport j list s = serialOpened (opening j list s) j list s

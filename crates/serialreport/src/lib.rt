@@ -2,6 +2,7 @@
 use frame::MOST;
 use frame::Refused;
 use guards::Judgement;
+use linefault::explain_unread;
 use opening::Opened;
 use order::OrderReply;
 use output::put_text;
@@ -61,6 +62,6 @@ pub fn serial_report(j: Judgement, list: &[u8], text: &[u8], out: &mut [u8]) -> 
             let k = n as usize;
             put_order(j, list, &words[..k], out)
         }
-        Opened::Refused(s, x) => explain_refusal(out, 0, s, &words[..0], x),
+        Opened::Refused(s, x) => explain_unread(out, s, list, text, x),
     }
 }

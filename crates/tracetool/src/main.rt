@@ -1,5 +1,6 @@
 // The command-line tool. Its words, its files and standard output are crate console's; what is
-// printed of the files is said by the crates verdictreport, serialreport, movesreport and equalreport, and of a kept line by linereport.
+// printed of the files is said by the crates verdictreport, serialreport, movesreport and equalreport, and of a kept line by linereport; a picture is
+// drawn by drawing.
 use command::Command;
 use command::Request;
 use console::ROOM;
@@ -18,6 +19,14 @@ fn answer(c: Command, j: Judgement, text: &[u8], other: &[u8]) {
     console::print(&out[..n]);
 }
 
+// The same, and the picture of a recording.
+fn respond(c: Command, j: Judgement, text: &[u8], other: &[u8]) {
+    match c {
+        Command::Draw => drawing::draw(j, other, text),
+        _ => answer(c, j, text, other),
+    }
+}
+
 // A command on the file of word 2 and, where there is a second, that of word i; nothing where one cannot be read.
 fn run(c: Command, j: Judgement, second: bool, i: usize) {
     let mut text = console::room();
@@ -26,7 +35,7 @@ fn run(c: Command, j: Judgement, second: bool, i: usize) {
         let mut other = console::room();
         let m = console::load_second(second, i, &mut other);
         if m <= ROOM {
-            answer(c, j, &text[..n], &other[..m]);
+            respond(c, j, &text[..n], &other[..m]);
         }
     }
 }

@@ -2,10 +2,10 @@
 use explain::explain;
 use frame::Refused;
 use guards::Judgement;
+use linefault::explain_unread;
 use opening::Opened;
 use output::put_text;
 use phrase::Source;
-use refusaltext::explain_refusal;
 use reply::Reply;
 ghost use mathlib.Core.Path.{_≡_};
 ghost use lib.ListN.{length};
@@ -47,6 +47,6 @@ pub fn explain_report(j: Judgement, list: &[u8], text: &[u8], out: &mut [u8]) ->
             let q = verdict::judge(j, list, &words[..k]);
             explain(out, 0, Source::Recording, &words[..k], q, n)
         }
-        Opened::Refused(s, x) => explain_refusal(out, 0, s, &words[..0], x),
+        Opened::Refused(s, x) => explain_unread(out, s, list, text, x),
     }
 }

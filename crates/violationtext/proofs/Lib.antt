@@ -1,2 +1,2 @@
--- Sentences: the sentences as lines of two texts.
+-- Sentences: the sentences as lines of three texts.
 pub mod Sentences

@@ -1,4 +1,4 @@
--- The sentences of violations as lines of two texts.
+-- The sentences of violations as lines of three texts.
 use Prim.Native.Nat.{ℕ, _+_, _-_, _≤_, _<_}
 use mathlib.Core.Path.{_≡_, refl}
 use mathlib.Core.Bool.{Bool, true, false, cond}
@@ -9,7 +9,7 @@ use Rattle.reply.specs.declared.Kind.{Kind}
 use Rattle.reply.specs.declared.Kind.the-variants as kind
 use Rattle.output.specs.Output.{bytes}
 use Rattle.textlines.specs.Lines.{lineLength, nthLine}
-use Rattle.violationtext.specs.ViolationText.{kindSentence, whySentence}
+use Rattle.violationtext.specs.ViolationText.{kindSentence, whySentence, remedySentence}
 
 pub kind-numbered : (k : Kind) → 1 ≤ kindNumber k
 kind-numbered kind.GuardNotHeld = omega arith
@@ -42,6 +42,13 @@ whyLines =
     ++ (bytes (whySentence kind.AcquireAfterCommit false)
     ++ (bytes (whySentence kind.SetEmptied false))))))))
 
+abbrev remedyLines : List ℕ
+remedyLines =
+    bytes (remedySentence kind.GuardNotHeld)
+    ++ (bytes (remedySentence kind.UnprotectedAfterCommit)
+    ++ (bytes (remedySentence kind.AcquireAfterCommit)
+    ++ (bytes (remedySentence kind.SetEmptied))))
+
 pub kind-line : (k : Kind) → nthLine (kindNumber k - 1) kindLines ≡ bytes (kindSentence k)
 unfolding bytes nthLine lineLength
 kind-line kind.GuardNotHeld = refl
@@ -59,3 +66,10 @@ why-line kind.AcquireAfterCommit true = refl
 why-line kind.AcquireAfterCommit false = refl
 why-line kind.SetEmptied true = refl
 why-line kind.SetEmptied false = refl
+
+pub remedy-line : (k : Kind) → nthLine (kindNumber k - 1) remedyLines ≡ bytes (remedySentence k)
+unfolding bytes nthLine lineLength
+remedy-line kind.GuardNotHeld = refl
+remedy-line kind.UnprotectedAfterCommit = refl
+remedy-line kind.AcquireAfterCommit = refl
+remedy-line kind.SetEmptied = refl

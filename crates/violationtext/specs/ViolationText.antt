@@ -1,5 +1,5 @@
--- A violation in words, in the manner of 000, figure 2: where the block began, where and by what it committed, which frame goes wrong, and
--- why. What the slots of a sentence stand for is said by `piece` (crate sentence).
+-- A violation in words, in the manner of 000, figure 2: where the block began, where and by what it committed, which frame goes wrong, why,
+-- and what to do. What the slots of a sentence stand for is said by `piece` (crate sentence).
 -- Quotes are from docs/FORMAT.md.
 use Prim.Native.Nat.{ℕ}
 use Prim.Native.String.{String}
@@ -52,11 +52,21 @@ whySentence kind.SetEmptied true =
 whySentence kind.SetEmptied false =
     "  Locks left that may guard the variable: ~. Thread & holds none of them, so no one lock guards every access of the variable.\n"
 
--- The four parts, where the frame is known and where it is not.
+-- What to do.
+abbrev pub remedySentence : Kind → String
+remedySentence kind.GuardNotHeld = "  To mend it, hold lock ~ at this line; in a block, take it before the commit.\n"
+remedySentence kind.UnprotectedAfterCommit =
+    "  To mend it, end the block before this line, or name a guard of the variable and hold it at each access.\n"
+remedySentence kind.AcquireAfterCommit =
+    "  To mend it, take the lock before the commit and hold each lock until the block ends, or end the block before this line.\n"
+remedySentence kind.SetEmptied = "  To mend it, hold one lock at every access of the variable.\n"
+
+-- The five parts, where the frame is known and where it is not.
 abbrev pub violationParts : Facts → Violation → Bool → List ℕ
 violationParts f v k =
     filled f (bytes (kindSentence (v .kind)))
-    ++ (filled f (bytes (blockSentence (v .begin) (v .commit) k)) ++ (filled f (bytes (frameSentence k)) ++ filled f (bytes (whySentence (v .kind) k))))
+    ++ (filled f (bytes (blockSentence (v .begin) (v .commit) k))
+    ++ (filled f (bytes (frameSentence k)) ++ (filled f (bytes (whySentence (v .kind) k)) ++ filled f (bytes (remedySentence (v .kind))))))
 
 abbrev pub violationText : Facts → Violation → List ℕ
 violationText f v = violationParts f v (known (f .frame))

@@ -1,4 +1,4 @@
-// A violation in words: what happened, the thread's block, the frame, and why it goes wrong.
+// A violation in words: what happened, the thread's block, the frame, why it goes wrong, and what to do.
 use reply::Kind;
 use reply::Mark;
 use reply::Violation;
@@ -11,7 +11,7 @@ ghost use lib.ListN.{length};
 ghost use Rattle.reply.specs.Reply.{kindNumber};
 ghost use Rattle.output.specs.Output.{bytes, behind, written};
 ghost use Rattle.sentence.specs.Sentence.{filled};
-ghost use Rattle.violationtext.specs.ViolationText.{kindSentence, blockSentence, frameSentence, whySentence, violationText};
+ghost use Rattle.violationtext.specs.ViolationText.{kindSentence, blockSentence, frameSentence, whySentence, remedySentence, violationText};
 
 // What happened.
 fn say_kind(out: &mut [u8], at: usize, kind: Kind, f: Facts) -> usize
@@ -104,6 +104,22 @@ fn say_why(out: &mut [u8], at: usize, kind: Kind, known: bool, f: Facts) -> usiz
     say(out, at, sentence, f)
 }
 
+// What to do.
+fn say_remedy(out: &mut [u8], at: usize, kind: Kind, f: Facts) -> usize
+    ensures place { λ r. ⌜ r ≡ behind (length (now (out .entry))) at (filled f (bytes (remedySentence kind))) ⌝ }
+    ensures contents { λ r. ⌜ now (out .exit) ≡ written (now (out .entry)) at (filled f (bytes (remedySentence kind))) ⌝ }
+{
+    let n = reply::kind_number(kind);
+    let sentence = textlines::nth_line(
+        b"  To mend it, hold lock ~ at this line; in a block, take it before the commit.\n\
+            \x20 To mend it, end the block before this line, or name a guard of the variable and hold it at each access.\n\
+            \x20 To mend it, take the lock before the commit and hold each lock until the block ends, or end the block before this line.\n\
+            \x20 To mend it, hold one lock at every access of the variable.\n",
+        n - 1,
+    );
+    say(out, at, sentence, f)
+}
+
 pub fn say_violation(out: &mut [u8], at: usize, f: Facts, v: Violation) -> usize
     ensures place { λ r. ⌜ r ≡ behind (length (now (out .entry))) at (violationText f v) ⌝ }
     ensures contents { λ r. ⌜ now (out .exit) ≡ written (now (out .entry)) at (violationText f v) ⌝ }
@@ -116,5 +132,6 @@ pub fn say_violation(out: &mut [u8], at: usize, f: Facts, v: Violation) -> usize
     let p = say_kind(out, at, kind, f);
     let q = say_block(out, p, begin, commit, k, f);
     let r = say_frame(out, q, k, f);
-    say_why(out, r, kind, k, f)
+    let s = say_why(out, r, kind, k, f);
+    say_remedy(out, s, kind, f)
 }

@@ -1,2 +1,2 @@
 -- Walks: the loops of `write_order` and `write_moves`.
-mod Walks
+pub mod Walks

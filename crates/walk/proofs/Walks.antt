@@ -56,7 +56,7 @@ pub record Stands (words counts depths : List ℕ) (i : ℕ) : Type 0 where
   pub counts-low : Low i counts
   pub depths-low : Low i depths
 
-stands-first : (words : List ℕ) → Stands words (replicate lockCount 0) (replicate threadCount 0) 0
+pub stands-first : (words : List ℕ) → Stands words (replicate lockCount 0) (replicate threadCount 0) 0
 stands-first words = record {
   within = omega arith;
   counts-low = λ m. omega (arith, getD-filled lockCount m 0);
@@ -82,7 +82,7 @@ module _ {A : Type 0} (guards words : List ℕ) (xs : List A) (i : ℕ) where
     unfolding walkFrom
     walk-here = rw (drop-cons words i 0 h, e, add-one i, ← s)
 
-stands-next : (guards : List ℕ) {words : List ℕ} (x : Tables) {y : Tables} {i : ℕ} (f : Frame) → Stands words (x .counts) (x .depths) i → i < length words
+pub stands-next : (guards : List ℕ) {words : List ℕ} (x : Tables) {y : Tables} {i : ℕ} (f : Frame) → Stands words (x .counts) (x .depths) i → i < length words
     → y ≡ visited guards i f x → Stands words (y .counts) (y .depths) (i + 1)
 unfolding visited
 stands-next guards {words} x {y} {i} f st h e = record {

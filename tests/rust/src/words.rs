@@ -1,5 +1,8 @@
 //! What `tracetool` prints, by docs/TOOL.md and docs/FORMAT.md alone.
 
+#[path = "drawing.rs"]
+mod drawing;
+
 use crate::{
     check_recording, displacements, equal, read_guards, read_text, serial_places, verdict_line,
     Declared, Fields, Frame, Refusal, Verdict, Violation, ABSENT,
@@ -12,12 +15,27 @@ pub const RIGHT: &str = "the right recording";
 /// Of a kept line: a recording or a guard list.
 pub const TEXT: &str = "the text";
 
-/// The content of the file of a name, if it can be read.
-pub type Files<'a> = &'a dyn Fn(&[u8]) -> Option<Vec<u8>>;
+/// The content of the file of a name, or the number of the system's error.
+pub type Files<'a> = &'a dyn Fn(&[u8]) -> Result<Vec<u8>, i32>;
+
+const HELP: &str = "\
+usage: tracetool verdict RECORDING [--guards LIST]   the verdict line
+       tracetool serial RECORDING [--guards LIST]    the serial order as lines
+       tracetool moves RECORDING [--guards LIST]     how far each frame moves to its place in the serial order
+       tracetool draw RECORDING [--guards LIST]      the recording as a picture (SVG)
+       tracetool equal LEFT RIGHT                    equal, or not equal
+       tracetool explain RECORDING [--guards LIST]   the answer in words
+       tracetool line LINE                           a kept verdict line in words
+       tracetool help                                this list
+       tracetool --version                           the version
+Guards are inferred without --guards, and declared with it. The first word printed says how it went.
+";
+const VERSION: &str = "tracetool 1.0.0\n";
+const COMMANDS: &[u8] = b"commands: verdict, serial, moves, draw, equal, explain, line, help";
 
 // Command lines.
 
-/// All that is printed for these words, of which there is at least one.
+/// All that is printed for these words.
 pub fn answer(words: &[&[u8]], files: Files) -> Vec<u8> {
     match command(words, files) {
         Ok(printed) => printed.into_bytes(),
@@ -25,9 +43,11 @@ pub fn answer(words: &[&[u8]], files: Files) -> Vec<u8> {
     }
 }
 
-/// All files are read before any is checked; an error is the first of a list, then a recording.
+/// All files are read before any is checked, in the order of the words.
 fn command(words: &[&[u8]], files: Files) -> Result<String, Vec<u8>> {
     let (recording, list) = match words {
+        [] | [b"help" | b"--help" | b"-h", ..] => return Ok(HELP.into()),
+        [b"--version", ..] => return Ok(VERSION.into()),
         [b"equal", left, right] => {
             let (left, right) = (content(left, files)?, content(right, files)?);
             return Ok(compare(&left, &right));
@@ -35,21 +55,23 @@ fn command(words: &[&[u8]], files: Files) -> Result<String, Vec<u8>> {
         [b"equal", ..] => return Err(b"use: tracetool equal LEFT RIGHT".to_vec()),
         [b"line", line] => return Ok(explain_line(line)),
         [b"line", ..] => return Err(b"use: tracetool line LINE".to_vec()),
-        [b"verdict" | b"serial" | b"moves" | b"explain", recording] => (recording, None),
-        [b"verdict" | b"serial" | b"moves" | b"explain", recording, b"--guards", list] => {
-            (recording, Some(content(list, files)?))
+        [b"verdict" | b"serial" | b"moves" | b"draw" | b"explain", recording] => (recording, None),
+        [b"verdict" | b"serial" | b"moves" | b"draw" | b"explain", recording, b"--guards", list] => {
+            (recording, Some(list))
         }
-        [command @ (b"verdict" | b"serial" | b"moves" | b"explain"), ..] => {
+        [command @ (b"verdict" | b"serial" | b"moves" | b"draw" | b"explain"), ..] => {
             let operands = b" RECORDING [--guards LIST]";
             return Err([b"use: tracetool ", *command, operands].concat());
         }
-        _ => return Err([b"no such command: ", words[0]].concat()),
+        [name, ..] => return Err([b"no such command: ", *name, b"\n", COMMANDS].concat()),
     };
     let recording = content(recording, files)?;
+    let list = list.map(|list| content(list, files)).transpose()?;
     let printed = match words[0] {
         b"verdict" => verdict,
         b"serial" => serial,
         b"moves" => moves,
+        b"draw" => draw,
         _ => explain,
     };
     Ok(printed(&recording, list.as_deref()))
@@ -59,7 +81,18 @@ fn content(name: &[u8], files: Files) -> Result<Vec<u8>, Vec<u8>> {
     if name.is_empty() {
         return Err(b"a file name is empty".to_vec());
     }
-    files(name).ok_or_else(|| [b"cannot read ", name].concat())
+    files(name).map_err(|error| [b"cannot read ", name, b": ", why(error).as_bytes()].concat())
+}
+
+fn why(error: i32) -> String {
+    match error {
+        // No entry, or a part of the path is no directory.
+        2 | 20 => "no such file".into(),
+        13 => "no permission".into(),
+        21 => "it is a directory".into(),
+        36 => "the name is too long".into(),
+        _ => format!("error number {error} of the system"),
+    }
 }
 
 // Answers.
@@ -69,6 +102,8 @@ struct Refused {
     file: &'static str,
     /// The word of the frame, where there is one and it is at hand.
     word: Option<u32>,
+    /// What is wrong in a line, where it is not eight digits and an LF and is at hand.
+    fault: Option<String>,
 }
 
 fn refused(refusal: Refusal, file: &'static str, words: &[u32]) -> Refused {
@@ -77,11 +112,21 @@ fn refused(refusal: Refusal, file: &'static str, words: &[u32]) -> Refused {
         refusal,
         file,
         word,
+        fault: None,
+    }
+}
+
+/// Of a text that is not read.
+fn unread(refusal: Refusal, file: &'static str, text: &[u8]) -> Refused {
+    let fault = (refusal.number == 1).then(|| line_fault(text, refusal.place));
+    Refused {
+        fault,
+        ..refused(refusal, file, &[])
     }
 }
 
 fn sound(text: &[u8], file: &'static str) -> Result<(Vec<u32>, Vec<Frame>), Refused> {
-    let words = read_text(text).map_err(|refusal| refused(refusal, file, &[]))?;
+    let words = read_text(text).map_err(|refusal| unread(refusal, file, text))?;
     match check_recording(&words) {
         Ok(frames) => Ok((words, frames)),
         Err(refusal) => Err(refused(refusal, file, &words)),
@@ -96,8 +141,8 @@ struct Judged {
 }
 
 fn judge(recording: &[u8], list: Option<&[u8]>) -> Result<Judged, Refused> {
-    let guards = list.map(read_guards).transpose();
-    let guards = guards.map_err(|refusal| refused(refusal, GUARD_LIST, &[]))?;
+    let read = |list| read_guards(list).map_err(|refusal| unread(refusal, GUARD_LIST, list));
+    let guards = list.map(read).transpose()?;
     let (words, frames) = sound(recording, RECORDING)?;
     let verdict = crate::verdict(&frames, &guards);
     Ok(Judged {
@@ -156,12 +201,35 @@ fn compare(left: &[u8], right: &[u8]) -> String {
 
 fn explain(recording: &[u8], list: Option<&[u8]>) -> String {
     match judge(recording, list) {
-        Ok(judged) => match judged.verdict {
-            Verdict::Reducible { frames } => reducible_text(frames),
-            Verdict::Violation(violation) => violation_text(&violation, Some(&judged.words)),
-        },
+        Ok(judged) => judged_text(&judged),
         Err(refused) => refusal_text(&refused),
     }
+}
+
+fn judged_text(judged: &Judged) -> String {
+    match &judged.verdict {
+        Verdict::Reducible { frames } => reducible_text(*frames),
+        Verdict::Violation(violation) => violation_text(violation, Some(&judged.words)),
+    }
+}
+
+fn draw(recording: &[u8], list: Option<&[u8]>) -> String {
+    let judged = match judge(recording, list) {
+        Ok(judged) => judged,
+        Err(refused) => return refusal_text(&refused),
+    };
+    let places = serial_places(&judged.frames, &judged.guards).ok();
+    let picture = drawing::Picture {
+        explained: &judged_text(&judged),
+        frames: &judged.frames,
+        guards: &judged.guards,
+        violation: match judged.verdict {
+            Verdict::Violation(violation) => Some(violation.frame),
+            Verdict::Reducible { .. } => None,
+        },
+        moves: places.map(|places| displacements(&places)),
+    };
+    picture.svg()
 }
 
 /// A kept verdict line; the word is its digits.
@@ -198,7 +266,10 @@ fn explain_line(word: &[u8]) -> String {
 // Texts.
 
 fn reducible_text(frames: usize) -> String {
-    format!("reducible: no frame goes wrong; frames: {frames}.\n")
+    match frames {
+        0 => "reducible: there is nothing in the recording; frames: 0.\n".into(),
+        _ => format!("reducible: no frame goes wrong; frames: {frames}.\n"),
+    }
 }
 
 fn line_at(place: usize) -> String {
@@ -259,9 +330,27 @@ fn violation_text(violation: &Violation, words: Option<&[u32]>) -> String {
         Some(words) => reason(violation, words[place] & 0xFFFF),
         None => line_reason(violation),
     };
+    let remedy = remedy(violation);
     format!(
-        "violation: {kind}, by thread {thread}.\n{block}  It goes wrong at {wrong}.\n  {reason}\n"
+        "violation: {kind}, by thread {thread}.\n{block}  It goes wrong at {wrong}.\n  {reason}\n  \
+         To mend it, {remedy}\n"
     )
+}
+
+fn remedy(violation: &Violation) -> String {
+    match violation.kind {
+        1 => format!(
+            "hold lock {} at this line; in a block, take it before the commit.",
+            locks_text(violation.locks)
+        ),
+        2 => "end the block before this line, or name a guard of the variable and hold it at each \
+              access."
+            .into(),
+        3 => "take the lock before the commit and hold each lock until the block ends, or end the \
+              block before this line."
+            .into(),
+        _ => "hold one lock at every access of the variable.".into(),
+    }
 }
 
 fn reason(violation: &Violation, variable: u32) -> String {
@@ -307,6 +396,34 @@ fn line_reason(violation: &Violation) -> String {
     }
 }
 
+/// The first wrong byte of the line at a place, its column, and what to do.
+fn line_fault(text: &[u8], place: usize) -> String {
+    let line = &text[9 * place..];
+    let digit = |byte: &&u8| matches!(byte, b'0'..=b'9' | b'A'..=b'F');
+    let column = 1 + line.iter().take(8).take_while(digit).count();
+    let Some(&byte) = line.get(column - 1) else {
+        let what = match column {
+            9 => "so the last line has no LF; add it.",
+            _ => "so there are too few digits and no LF; write eight and an LF.",
+        };
+        return format!("column {column} is behind the end of the file, {what}");
+    };
+    let marks: [&[u8]; 3] = [b"\xEF\xBB\xBF", b"\xFF\xFE", b"\xFE\xFF"];
+    let marked = text.len() >= 3 && marks.iter().any(|mark| text.starts_with(mark));
+    let what = match (column, byte) {
+        _ if marked => "a byte-order mark; save the file without it.",
+        (1, b'\n') => "an LF, so the line is blank; drop it.",
+        (_, b'\n') => "an LF, so there are too few digits; write eight.",
+        (_, b'\r') => "a CR; end each line with LF alone.",
+        (_, b' ' | b'\t') => "a blank or a tab; write none.",
+        (9, b'0'..=b'9' | b'A'..=b'F' | b'a'..=b'f') => "a digit too many; write eight.",
+        (9, _) => "not the LF; end the line behind eight digits.",
+        (_, b'a'..=b'f') => "a lower-case letter; write A-F.",
+        _ => "not a digit; write 0-9 A-F.",
+    };
+    format!("column {column} has byte {byte:02X}, {what}")
+}
+
 fn refusal_text(refused: &Refused) -> String {
     let Refusal { number, place } = refused.refusal;
     let line = format!("{} of {}", line_at(place), refused.file);
@@ -321,10 +438,13 @@ fn refusal_text(refused: &Refused) -> String {
         None => (line.clone(), "its thread", "its thread".into()),
     };
     let reason = match number {
-        1 => format!(
-            "{line} is not eight digits 0-9 A-F and one LF; write it so, without blanks, lower case \
-             or CR, and end the last line."
-        ),
+        1 => match &refused.fault {
+            Some(fault) => format!("{line} is not eight digits 0-9 A-F and one LF: {fault}"),
+            None => format!(
+                "{line} is not eight digits 0-9 A-F and one LF; write it so, without blanks, lower \
+                 case or CR, and end the last line."
+            ),
+        },
         2 => format!("{file} has more than {place} lines; cut it down to {place}."),
         3 => format!("the word buffer has fewer than {place} words; lend one for each line."),
         4 => format!("{line} has an operation other than 01 to 06; mend its digits 1 and 2."),

@@ -40,21 +40,33 @@ judge-requires-4 c κs = search needs
 enum-told-5 : tie.Need-enum-told-5
 enum-told-5 c = search needs
 
-returns-2 : tie.Need-returns-2
-unfolding requestOf
-returns-2 c =
-    rw (le-ltb _ _ (c .before .before .before .before .if1 .left), sym (c .before .before .before .command-of .ensures) ∙ c .before .enum-told5 .given .1, eq-eqb _ _ (c .if2 .taken))
+judge-requires-5 : tie.Need-judge-requires-5
+judge-requires-5 c κs = search needs
 
 enum-told-6 : tie.Need-enum-told-6
 enum-told-6 c = search needs
 
-returns-3 : tie.Need-returns-3
+returns-2 : tie.Need-returns-2
 unfolding requestOf
-returns-3 c =
-    rw (le-ltb _ _ (c .before .before .before .before .if1 .left), sym (c .before .before .before .command-of .ensures) ∙ c .before .enum-told6 .given .1, eq-eqb _ _ (c .if3 .taken))
+returns-2 c =
+    rw (le-ltb _ _ (c .before .before .before .before .if1 .left), sym (c .before .before .before .command-of .ensures) ∙ c .before .enum-told6 .given .1, eq-eqb _ _ (c .if2 .taken))
 
 enum-told-7 : tie.Need-enum-told-7
 enum-told-7 c = search needs
+
+returns-3 : tie.Need-returns-3
+unfolding requestOf
+returns-3 c =
+    rw (le-ltb _ _ (c .before .before .before .before .if1 .left), sym (c .before .before .before .command-of .ensures) ∙ c .before .enum-told7 .given .1, eq-eqb _ _ (c .if3 .taken))
+
+enum-told-8 : tie.Need-enum-told-8
+enum-told-8 c = search needs
+
+enum-told-9 : tie.Need-enum-told-9
+enum-told-9 c = search needs
+
+enum-told-10 : tie.Need-enum-told-10
+enum-told-10 c = search needs
 
 returns-4 : tie.Need-returns-4
 unfolding requestOf
@@ -79,17 +91,32 @@ returns-7 c =
 returns-8 : tie.Need-returns-8
 unfolding requestOf
 returns-8 c =
-    rw (le-ltb _ _ (c .before .before .before .before .if1 .left), sym (c .before .before .before .command-of .ensures) ∙ c .before .enum-told5 .given .1, ne-eqb _ _ (c .if2 .left))
+    rw (le-ltb _ _ (c .before .before .before .before .if1 .left), sym (c .before .before .before .command-of .ensures) ∙ c .before .enum-told5 .given .1) (c .judge5 .ensures)
 
 returns-9 : tie.Need-returns-9
 unfolding requestOf
 returns-9 c =
-    rw (le-ltb _ _ (c .before .before .before .before .if1 .left), sym (c .before .before .before .command-of .ensures) ∙ c .before .enum-told6 .given .1, ne-eqb _ _ (c .if3 .left))
+    rw (le-ltb _ _ (c .before .before .before .before .if1 .left), sym (c .before .before .before .command-of .ensures) ∙ c .before .enum-told6 .given .1, ne-eqb _ _ (c .if2 .left))
 
 returns-10 : tie.Need-returns-10
 unfolding requestOf
 returns-10 c =
-    rw (le-ltb _ _ (c .before .before .before .if1 .left), sym (c .before .before .command-of .ensures) ∙ c .enum-told7 .given .1)
+    rw (le-ltb _ _ (c .before .before .before .before .if1 .left), sym (c .before .before .before .command-of .ensures) ∙ c .before .enum-told7 .given .1, ne-eqb _ _ (c .if3 .left))
+
+returns-11 : tie.Need-returns-11
+unfolding requestOf
+returns-11 c =
+    rw (le-ltb _ _ (c .before .before .before .if1 .left), sym (c .before .before .command-of .ensures) ∙ c .enum-told8 .given .1)
+
+returns-12 : tie.Need-returns-12
+unfolding requestOf
+returns-12 c =
+    rw (le-ltb _ _ (c .before .before .before .if1 .left), sym (c .before .before .command-of .ensures) ∙ c .enum-told9 .given .1)
+
+returns-13 : tie.Need-returns-13
+unfolding requestOf
+returns-13 c =
+    rw (le-ltb _ _ (c .before .before .before .if1 .left), sym (c .before .before .command-of .ensures) ∙ c .enum-told10 .given .1)
 
 pub request-of-spec : {M : Type 1} → statement M
 request-of-spec =
@@ -106,14 +133,21 @@ request-of-spec =
     enum-told-4
     judge-requires-4
     enum-told-5
-    returns-2
+    judge-requires-5
     enum-told-6
-    returns-3
+    returns-2
     enum-told-7
+    returns-3
+    enum-told-8
+    enum-told-9
+    enum-told-10
     returns-4
     returns-5
     returns-6
     returns-7
     returns-8
     returns-9
-    returns-10)
+    returns-10
+    returns-11
+    returns-12
+    returns-13)

@@ -35,14 +35,8 @@ put-equal-requires c κs = search needs
 enum-known-o-2 : tie.Need-enum-known-o-2
 enum-known-o-2 c = search needs
 
-array-share-prefix-words-2 : tie.Need-array-share-prefix-words-2
-array-share-prefix-words-2 c = search needs
-
-slice-aggregate-explain-refusal : tie.Need-slice-aggregate-explain-refusal
-slice-aggregate-explain-refusal c = search needs
-
-explain-refusal-requires : tie.Need-explain-refusal-requires
-explain-refusal-requires c κs = search needs
+explain-unread-requires : tie.Need-explain-unread-requires
+explain-unread-requires c κs = search needs
 
 same-length : tie.Need-same-length
 same-length c = search needs
@@ -59,8 +53,8 @@ same-length-2 c = search needs
 
 returns-2 : tie.Need-returns-2
 returns-2 c =
-    let r = c .before .before .before .before .before .before .before .before .open-text in
-    rw (sym (r .ensures .0) ∙ c .before .before .before .before .before .before .o2 .given .1) (c .before .before .explain-refusal .ensures)
+    let r = c .before .before .before .before .before .before .before .open-text in
+    rw (sym (r .ensures .0) ∙ c .before .before .before .before .before .o2 .given .1) (c .before .before .explain-unread .ensures)
 
 pub put-right-spec : {M : Type 1} → statement M
 put-right-spec =
@@ -73,9 +67,7 @@ put-right-spec =
     slice-aggregate-put-equal
     put-equal-requires
     enum-known-o-2
-    array-share-prefix-words-2
-    slice-aggregate-explain-refusal
-    explain-refusal-requires
+    explain-unread-requires
     same-length
     returns
     same-length-2

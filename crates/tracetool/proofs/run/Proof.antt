@@ -26,17 +26,17 @@ load-second-requires c κs = search needs
 array-share-prefix-text : tie.Need-array-share-prefix-text
 array-share-prefix-text c = search needs
 
-slice-aggregate-answer : tie.Need-slice-aggregate-answer
-slice-aggregate-answer c = sym (length-take-le _ _ (array-share-prefix-text (c .before)))
+slice-aggregate-respond : tie.Need-slice-aggregate-respond
+slice-aggregate-respond c = sym (length-take-le _ _ (array-share-prefix-text (c .before)))
 
 array-share-prefix-other : tie.Need-array-share-prefix-other
 array-share-prefix-other c = search needs
 
-slice-aggregate-answer-2 : tie.Need-slice-aggregate-answer-2
-slice-aggregate-answer-2 c = sym (length-take-le _ _ (array-share-prefix-other (c .before)))
+slice-aggregate-respond-2 : tie.Need-slice-aggregate-respond-2
+slice-aggregate-respond-2 c = sym (length-take-le _ _ (array-share-prefix-other (c .before)))
 
-answer-requires : tie.Need-answer-requires
-answer-requires c κs = search needs
+respond-requires : tie.Need-respond-requires
+respond-requires c κs = search needs
 
 returns : tie.Need-returns
 returns c = search needs
@@ -58,10 +58,10 @@ run-spec =
     slice-aggregate-load-second
     load-second-requires
     array-share-prefix-text
-    slice-aggregate-answer
+    slice-aggregate-respond
     array-share-prefix-other
-    slice-aggregate-answer-2
-    answer-requires
+    slice-aggregate-respond-2
+    respond-requires
     returns
     returns-2
     returns-3)

@@ -1,18 +1,20 @@
 //! Runs the program `tracetool` on files and compares all that it prints with the reference. Its
-//! lines must also be those of docs/TOOL.md, and no file may change.
+//! lines must also be those of docs/TOOL.md, each picture must show what its recording has, and no
+//! file may change.
 //! Arguments: the path of the program, then an optional seed.
 
-use std::collections::BTreeMap;
+use std::collections::{BTreeMap, BTreeSet};
 use std::ffi::{OsStr, OsString};
 use std::fs::{self, File, Permissions};
 use std::os::unix::ffi::OsStrExt;
-use std::os::unix::fs::PermissionsExt;
+use std::os::unix::fs::{symlink, PermissionsExt};
 use std::path::PathBuf;
 use std::process::{Command, ExitCode, Stdio};
 use std::time::{Duration, SystemTime};
 use trace_tests::adversarial::{
-    furthest, guard_lines, near_lines, pairs, random_fields, random_line, word, ACQUIRE, BEGIN,
-    EDGE_KINDS, EDGE_LOCKS, EDGE_PLACES, END, RELEASE,
+    all_deep, all_locks, alternation, furthest, guard_lines, hold_walk, lock_walk, near_lines,
+    nesting_walk, pairs, random_fields, random_line, word, ACQUIRE, BEGIN, EDGE_KINDS, EDGE_LOCKS,
+    EDGE_PLACES, END, RELEASE,
 };
 use trace_tests::case::{text, Call};
 use trace_tests::random::{damage_text, interleaved, text_of_words, Random};
@@ -25,15 +27,21 @@ mod document;
 use document::{fits, templates, uses, FILES};
 
 const DEFAULT_SEED: u64 = 1;
-const RANDOM_RECORDINGS: usize = 300;
+const RANDOM_RECORDINGS: usize = 200;
 const RANDOM_PAIRS: usize = 400;
-const RANDOM_LONG: usize = 60;
+const RANDOM_LONG: usize = 30;
 const RANDOM_LINES: usize = 600;
+const RANDOM_FAULTS: usize = 300;
+const RANDOM_PICTURES: usize = 60;
 /// The length of the longest recording's text.
 const MOST_BYTES: usize = 9 * MOST_FRAMES;
-const COMMANDS: [&str; 6] = ["verdict", "serial", "moves", "explain", "equal", "line"];
+const COMMANDS: [&str; 8] = [
+    "verdict", "serial", "moves", "draw", "explain", "equal", "line", "help",
+];
 /// The commands on one recording.
-const JUDGING: [&str; 4] = ["verdict", "serial", "moves", "explain"];
+const JUDGING: [&str; 5] = ["verdict", "serial", "moves", "draw", "explain"];
+/// Those of them that answer in words, or in a picture.
+const TELLING: [&str; 4] = ["explain", "serial", "moves", "draw"];
 
 /// Done, or what went wrong.
 type Done = Result<(), String>;
@@ -66,8 +74,10 @@ impl Drop for Folder {
     }
 }
 
-fn read(name: &[u8]) -> Option<Vec<u8>> {
-    fs::read(OsStr::from_bytes(name)).ok()
+/// The content of a file, or the number of the error.
+fn read(name: &[u8]) -> Result<Vec<u8>, i32> {
+    let content = fs::read(OsStr::from_bytes(name));
+    content.map_err(|error| error.raw_os_error().expect("an error of the system"))
 }
 
 /// Writes a file and makes it old, so that any later write shows.
@@ -96,6 +106,83 @@ fn entries() -> Result<Vec<Entry>, String> {
     Ok(entries)
 }
 
+// The page.
+
+const PAGE: &str = include_str!("../../../../docs/TOOL.md");
+
+/// A section without its heading.
+fn section(heading: &str) -> &'static str {
+    let start = format!("{heading}\n");
+    let mut sections = PAGE.split("\n## ");
+    let found = sections.find_map(|section| section.strip_prefix(&start[..]));
+    found.expect("a section of the page")
+}
+
+/// The help and the version.
+fn help_texts() -> (String, String) {
+    let lines: Vec<&str> = section("help and version")
+        .lines()
+        .filter_map(|line| line.strip_prefix("    "))
+        .collect();
+    let (version, help) = lines.split_last().expect("the help and the version");
+    let text = |lines: &[&str]| lines.iter().map(|line| format!("{line}\n")).collect();
+    (text(help), text(&[version]))
+}
+
+/// The lines of the page's table of bytes: whether the file ends, and WHAT.
+fn table_of_bytes() -> Vec<(bool, &'static str)> {
+    let row = |line: &'static str| {
+        let (byte, what) = line.strip_prefix("| ")?.split_once(" | `")?;
+        Some((byte.starts_with("the file ends"), what.strip_suffix("` |")?))
+    };
+    section("Refusals").lines().filter_map(row).collect()
+}
+
+/// The lines that answers have: WHAT is each of its table, and pictures are looked at otherwise.
+fn answer_lines() -> Vec<String> {
+    let pictures = section("draw");
+    let mut lines = Vec::new();
+    for line in templates() {
+        if pictures.contains(&format!("\n    {line}\n")) {
+            continue;
+        }
+        match line.strip_suffix("WHAT") {
+            Some(start) => {
+                let ends = !start.contains("BYTE");
+                let whats = table_of_bytes().into_iter().filter(|row| row.0 == ends);
+                lines.extend(whats.map(|(_, what)| format!("{start}{what}")));
+            }
+            None => lines.push(line.into()),
+        }
+    }
+    lines
+}
+
+/// Whether a line is of this template of the page.
+fn is_of(template: &str, line: &str) -> bool {
+    const COLUMN: &str = "column COLUMN ";
+    let Some((start, rest)) = template.split_once(COLUMN) else {
+        return fits(template, line);
+    };
+    let Some((before, byte)) = line.split_once("column ") else {
+        return false;
+    };
+    let Some((column, byte)) = byte.split_once(' ') else {
+        return false;
+    };
+    let same = match (
+        rest.strip_prefix("has byte BYTE"),
+        byte.strip_prefix("has byte "),
+    ) {
+        (Some(what), Some(byte)) => {
+            let digit = |byte: &u8| matches!(byte, b'0'..=b'9' | b'A'..=b'F');
+            byte.len() > 2 && byte.as_bytes()[..2].iter().all(digit) && byte.get(2..) == Some(what)
+        }
+        _ => rest == byte,
+    };
+    same && matches!(column.as_bytes(), [b'1'..=b'9']) && fits(start, before)
+}
+
 // Counts.
 
 /// Of a number that no refusal has.
@@ -103,6 +190,13 @@ const NOT_GIVEN: &str = ", which this check does not give; ";
 
 /// What a run is counted as.
 fn label(printed: &str) -> String {
+    if let Some((comment, picture)) = parted(printed) {
+        let order = match picture.contains(">serial order<") {
+            true => ", serial order",
+            false => "",
+        };
+        return format!("picture, {}{order}", label(comment));
+    }
     let words: Vec<&str> = printed.split_whitespace().take(3).collect();
     match words[..] {
         ["refused:", ..] if printed.contains(NOT_GIVEN) => "refusal above 21".into(),
@@ -113,6 +207,8 @@ fn label(printed: &str) -> String {
         ["violation:", _, kind] => format!("kind {}", kind.trim_end_matches(',')),
         [first @ ("reducible:" | "error:"), ..] => first.trim_end_matches(':').into(),
         ["equal" | "not", ..] => printed.trim_end().into(),
+        ["usage:", ..] => "help".into(),
+        ["tracetool", ..] => "version".into(),
         [line] if line.len() == 32 => format!("kind {}", &line[..2]),
         _ => "written".into(),
     }
@@ -151,6 +247,18 @@ fn required(command: &str) -> Vec<String> {
             &["written"],
             [of_files, refusals(RECORDING, &[13, 14])].concat(),
         ),
+        "draw" => (
+            &[
+                "picture, reducible, serial order",
+                "picture, reducible",
+                "picture, kind 1",
+                "picture, kind 2",
+                "picture, kind 3",
+                "picture, kind 4",
+            ],
+            of_files,
+        ),
+        "help" => return vec!["help".into()],
         "explain" => (
             &["reducible", "kind 1", "kind 2", "kind 3", "kind 4"],
             of_files,
@@ -184,6 +292,567 @@ fn required(command: &str) -> Vec<String> {
     answers.chain(refused).collect()
 }
 
+// Pictures, looked at without the reference's drawing.
+
+/// The comment that a picture begins with, and the rest.
+fn parted(printed: &str) -> Option<(&str, &str)> {
+    printed.strip_prefix("<!-- ")?.split_once(" -->\n")
+}
+
+struct Element<'a> {
+    name: &'a str,
+    attributes: BTreeMap<&'a str, &'a str>,
+    /// What stands between the start tag and the next one.
+    text: &'a str,
+}
+
+impl Element<'_> {
+    fn get(&self, attribute: &str) -> &str {
+        self.attributes.get(attribute).copied().unwrap_or("")
+    }
+
+    fn class(&self) -> &str {
+        self.get("class")
+    }
+
+    fn number(&self, attribute: &str) -> Result<usize, String> {
+        let value = self.get(attribute);
+        let number = value.parse();
+        number.map_err(|_| format!("{attribute}=\"{value}\" of {} is no number", self.name))
+    }
+
+    fn is(&self, name: &str, class: &str) -> bool {
+        self.name == name && self.class() == class
+    }
+}
+
+/// The attributes of a tag: each once, quoted, a blank between two.
+fn attributes(mut text: &str) -> Option<BTreeMap<&str, &str>> {
+    let mut found = BTreeMap::new();
+    while !text.is_empty() {
+        let (name, rest) = text.split_once("=\"")?;
+        let (value, rest) = rest.split_once('"')?;
+        let letter = |letter: char| letter.is_ascii_alphabetic() || letter == '-';
+        let named = !name.is_empty() && name.chars().all(letter);
+        if !named || value.contains(['<', '&']) || found.insert(name, value).is_some() {
+            return None;
+        }
+        text = rest;
+        if !text.is_empty() {
+            text = text.strip_prefix(' ').filter(|rest| !rest.is_empty())?;
+        }
+    }
+    Some(found)
+}
+
+/// The elements of a document in order, if it is well-formed XML with one root.
+fn elements(document: &str) -> Result<Vec<Element<'_>>, String> {
+    let mut elements = Vec::new();
+    let mut open = Vec::new();
+    let mut rest = document;
+    while let Some(start) = rest.find('<') {
+        let (text, tag) = rest.split_at(start);
+        if text.contains(['&', '>']) || open.is_empty() && !text.trim().is_empty() {
+            return Err(format!("a text \"{text}\""));
+        }
+        if let Some(comment) = tag.strip_prefix("<!--") {
+            let ended = comment.split_once("-->");
+            let (comment, after) = ended.ok_or("a comment without an end")?;
+            if comment.contains("--") || comment.ends_with('-') {
+                return Err(format!("a comment \"{comment}\""));
+            }
+            rest = after;
+            continue;
+        }
+        let (tag, after) = tag[1..].split_once('>').ok_or("a tag without an end")?;
+        rest = after;
+        if open.is_empty() && !elements.is_empty() {
+            return Err(format!("a tag \"{tag}\" behind the root"));
+        }
+        if let Some(name) = tag.strip_prefix('/') {
+            if open.pop() != Some(name) {
+                return Err(format!("an end tag \"{tag}\" without its start"));
+            }
+            continue;
+        }
+        let (start, closed) = match tag.strip_suffix('/') {
+            Some(start) => (start, true),
+            None => (tag, false),
+        };
+        let (name, given) = start.split_once(' ').unwrap_or((start, ""));
+        let attributes = attributes(given).filter(|_| !given.is_empty() || !start.ends_with(' '));
+        let (Some(attributes), true) = (attributes, name.chars().all(char::is_alphabetic)) else {
+            return Err(format!("a tag \"{tag}\""));
+        };
+        if !closed {
+            open.push(name);
+        }
+        let text = if closed {
+            ""
+        } else {
+            &after[..after.find('<').unwrap_or(0)]
+        };
+        elements.push(Element {
+            name,
+            attributes,
+            text,
+        });
+    }
+    match open.pop() {
+        Some(name) => Err(format!("{name} has no end tag")),
+        None if elements.is_empty() || rest != "\n" => Err("no root, or text behind it".into()),
+        None => Ok(elements),
+    }
+}
+
+fn same<T: PartialEq + std::fmt::Debug>(what: &str, shown: T, expected: T) -> Done {
+    match shown == expected {
+        true => Ok(()),
+        false => Err(format!("{what}: {shown:?}, not {expected:?}")),
+    }
+}
+
+/// A bar's lane, its column there, its colour, and where it begins and ends below the first row's
+/// top.
+type Bar = (u32, usize, u32, usize, usize);
+
+/// The bars and diamonds of a picture, in rising order.
+#[derive(Default, Debug, PartialEq)]
+struct Shapes {
+    /// Of blocks, nested ones too; the columns are depths.
+    blocks: Vec<Bar>,
+    /// Of locks held; the columns are numbers of locks.
+    holds: Vec<Bar>,
+    /// Of blocks in the serial order, without a column.
+    units: Vec<Bar>,
+    /// The lane and the place of each commit.
+    commits: Vec<(u32, usize)>,
+    /// The place of the violation.
+    marks: Vec<usize>,
+}
+
+impl Shapes {
+    fn sorted(mut self) -> Shapes {
+        self.blocks.sort_unstable();
+        self.holds.sort_unstable();
+        self.units.sort_unstable();
+        self.commits.sort_unstable();
+        self
+    }
+}
+
+/// A block's bar, from its begin's row to its last row.
+fn block_bar(thread: u32, depth: usize, begin: usize, last: usize) -> Bar {
+    (thread, depth, thread % 8, 18 * begin + 2, 18 * last + 16)
+}
+
+/// The variables that a list names are guarded; without a list no access commits.
+fn shapes_of(asked: &Asked) -> Shapes {
+    let named = |list: &Vec<u8>| -> BTreeSet<u32> {
+        let words = words_of(&String::from_utf8_lossy(list));
+        words.iter().map(|word| word >> 16).collect()
+    };
+    let named = asked.list.as_ref().map(named);
+    let rows = asked.words.len();
+    let mut shapes = Shapes::default();
+    shapes.marks.extend(asked.violation);
+    // The places where each lock was acquired and each thread's open blocks began.
+    let mut acquires = vec![Vec::new(); 64];
+    let mut begins = vec![Vec::new(); 32];
+    let mut committed = [false; 32];
+    for (place, &word) in asked.words.iter().enumerate() {
+        let (thread, object) = (thread_of(word), word & 0xFFFF);
+        let (own, lock) = (thread as usize, object as usize % 64);
+        let inside = !begins[own].is_empty();
+        let commits = match word >> 24 {
+            1 => {
+                acquires[lock].push((thread, place));
+                false
+            }
+            2 if acquires[lock].len() > 1 => {
+                acquires[lock].pop();
+                false
+            }
+            2 => {
+                let (_, from) = acquires[lock].pop().expect("held");
+                let bar = (thread, lock, object % 8, 18 * from + 9, 18 * place + 9);
+                shapes.holds.push(bar);
+                true
+            }
+            5 => {
+                committed[own] &= inside;
+                begins[own].push(place);
+                false
+            }
+            6 => {
+                let begin = begins[own].pop().expect("open");
+                let bar = block_bar(thread, begins[own].len(), begin, place);
+                shapes.blocks.push(bar);
+                begins[own].is_empty()
+            }
+            _ => named.as_ref().is_some_and(|named| !named.contains(&object)),
+        };
+        let judged = asked.violation.is_none_or(|wrong| place < wrong);
+        if inside && commits && judged && !committed[own] {
+            committed[own] = true;
+            shapes.commits.push((thread, place));
+        }
+    }
+    for (lock, acquires) in acquires.iter().enumerate() {
+        if let Some(&(thread, from)) = acquires.first() {
+            let bar = (thread, lock, lock as u32 % 8, 18 * from + 9, 18 * rows);
+            shapes.holds.push(bar);
+        }
+    }
+    for (thread, begins) in (0..).zip(&begins) {
+        for (depth, &begin) in begins.iter().enumerate() {
+            let bar = block_bar(thread, depth, begin, rows - 1);
+            shapes.blocks.push(bar);
+        }
+    }
+    let (order, _) = asked.order.clone().unwrap_or_default();
+    let mut depth = 0;
+    let mut begin = 0;
+    for (place, &word) in order.iter().enumerate() {
+        match word >> 24 {
+            5 => {
+                begin = if depth == 0 { place } else { begin };
+                depth += 1;
+            }
+            6 => depth -= 1,
+            _ => {}
+        }
+        if word >> 24 == 6 && depth == 0 {
+            let (_, _, colour, from, to) = block_bar(thread_of(word), 0, begin, place);
+            shapes.units.push((0, 0, colour, from, to));
+        }
+    }
+    shapes.sorted()
+}
+
+/// The lanes' starts and threads, from left to right.
+fn lanes_of(elements: &[Element]) -> Result<Vec<(usize, u32)>, String> {
+    let mut lanes = Vec::new();
+    for head in elements.iter().filter(|text| text.is("text", "head")) {
+        if let Some(thread) = head.text.strip_prefix("thread ") {
+            let thread = thread.parse().map_err(|_| "a lane without a thread")?;
+            lanes.push((head.number("x")?, thread));
+        }
+    }
+    Ok(lanes)
+}
+
+/// The shapes that the elements show, given the first row's top.
+fn shapes_shown(elements: &[Element], top: usize) -> Result<Shapes, String> {
+    let lanes = lanes_of(elements)?;
+    let lane_at = |x: usize| {
+        let lane = lanes.iter().rev().find(|lane| lane.0 <= x);
+        lane.copied().ok_or("a shape outside lanes")
+    };
+    let row_at = |y: usize, below: usize| {
+        let below = y.checked_sub(top + below);
+        let row = below.filter(|below| below % 18 == 0);
+        row.map(|below| below / 18).ok_or("a shape off its row")
+    };
+    // The locks' numbers by where they stand.
+    let mut numbers = BTreeMap::new();
+    for number in elements.iter().filter(|text| text.is("text", "number")) {
+        let lock: usize = number
+            .text
+            .parse()
+            .map_err(|_| "a lock without its number")?;
+        numbers.insert(number.number("x")?, lock);
+    }
+    let mut shapes = Shapes::default();
+    for element in elements {
+        let class = element.class();
+        if element.is("path", "commit") {
+            let shape = element.get("d").strip_suffix("l5 5l-5 5l-5-5z");
+            let (x, y) = point(shape.unwrap_or(""), "M")?;
+            shapes.commits.push((lane_at(x)?.1, row_at(y, 4)?));
+        }
+        if element.name != "rect" || class.is_empty() {
+            continue;
+        }
+        let (x, y) = (element.number("x")?, element.number("y")?);
+        if class == "mark" {
+            shapes.marks.push(row_at(y, 1)?);
+            continue;
+        }
+        let from = y.checked_sub(top).ok_or("a bar above its rows")?;
+        let to = from + element.number("height")?;
+        let colour = |start| {
+            class
+                .strip_prefix(start)
+                .and_then(|colour| colour.parse().ok())
+        };
+        match (colour("k"), colour("block t"), element.get("width")) {
+            (Some(colour), None, "6") => {
+                let lock = numbers.get(&(x + 3)).ok_or("a bar under no number")?;
+                shapes.holds.push((lane_at(x)?.1, *lock, colour, from, to));
+            }
+            (None, Some(colour), "8") => {
+                let (start, thread) = lane_at(x)?;
+                let left = start + 12 * numbers.range(start..x).count();
+                let right = x.checked_sub(left).filter(|right| right % 12 == 0);
+                let depth = right.ok_or("a block's bar off its column")? / 12;
+                shapes.blocks.push((thread, depth, colour, from, to));
+            }
+            (None, Some(colour), "6") => shapes.units.push((0, 0, colour, from, to)),
+            _ => return Err(format!("a bar of class {class}")),
+        }
+    }
+    Ok(shapes.sorted())
+}
+
+fn label_of(word: u32) -> String {
+    let object = word & 0xFFFF;
+    match word >> 24 {
+        1 => format!("acquire lock {object}"),
+        2 => format!("release lock {object}"),
+        3 => format!("read variable {object}"),
+        4 => format!("write variable {object}"),
+        5 => "begin".into(),
+        _ => "end".into(),
+    }
+}
+
+fn thread_of(word: u32) -> u32 {
+    word >> 16 & 255
+}
+
+fn words_of(text: &str) -> Vec<u32> {
+    let word = |line| u32::from_str_radix(line, 16).expect("a line");
+    text.lines().map(word).collect()
+}
+
+/// What the tool is asked for by the same words with another command.
+struct Asked {
+    words: Vec<u32>,
+    list: Option<Vec<u8>>,
+    explained: String,
+    violation: Option<usize>,
+    /// The serial order and the displacements, where there are any.
+    order: Option<(Vec<u32>, Vec<i32>)>,
+}
+
+fn asked<W: AsRef<[u8]>>(words: &[W]) -> Asked {
+    let of = |command: &str| {
+        let operands = words[1..].iter().map(|word| word.as_ref());
+        let words: Vec<&[u8]> = [command.as_bytes()].into_iter().chain(operands).collect();
+        String::from_utf8(reference(&words)).expect("text")
+    };
+    let content = |word: &W| read(word.as_ref()).expect("a file");
+    let verdict = of("verdict");
+    let place = usize::from_str_radix(&verdict[2..6], 16).expect("a place");
+    let (serial, moves) = (of("serial"), of("moves"));
+    let displacement = |line: &str| {
+        let (by, _) = line.split_once(' ').expect("two words");
+        by.parse().expect("a displacement")
+    };
+    let order = (!serial.starts_with("refused"))
+        .then(|| (words_of(&serial), moves.lines().map(displacement).collect()));
+    Asked {
+        words: words_of(&String::from_utf8_lossy(&content(&words[1]))),
+        list: words.get(3).map(content),
+        explained: of("explain"),
+        violation: (&verdict[..2] != "00").then_some(place),
+        order,
+    }
+}
+
+/// Looks at a picture's elements: they are those that the recording, its verdict and its serial
+/// order ask for, each in the row of its frame.
+fn check_picture<W: AsRef<[u8]>>(words: &[W], printed: &str) -> Done {
+    let asked = asked(words);
+    let (comment, _) = parted(printed).ok_or("no picture")?;
+    same(
+        "the comment",
+        format!("{comment}\n"),
+        asked.explained.clone(),
+    )?;
+    let elements = elements(printed)?;
+    within(&elements)?;
+    let classes = match asked.violation {
+        Some(_) => ["wrong", "why"],
+        None => ["head", "head"],
+    };
+    let sentences = elements
+        .iter()
+        .filter(|text| text.name == "text" && text.get("x") == "8" && text.class() != "key");
+    let sentences = sentences.map(|text| format!("{} {}", text.class(), text.text));
+    let lines = asked.explained.lines().enumerate();
+    let lines = lines.map(|(line, text)| format!("{} {text}", classes[line.min(1)]));
+    same::<Vec<String>>("the sentences", sentences.collect(), lines.collect())?;
+
+    let rows = rows(&elements, asked.words.len())?;
+    let top = rows.first().map_or(0, |row| row - 13);
+    same(
+        "the shapes",
+        shapes_shown(&elements, top)?,
+        shapes_of(&asked),
+    )?;
+    check_labels(&elements, &asked, &rows)?;
+    check_order(&elements, &asked, &rows)
+}
+
+/// Nothing stands outside the picture.
+fn within(elements: &[Element]) -> Done {
+    let root = &elements[0];
+    let (width, height) = (root.number("width")?, root.number("height")?);
+    same(
+        "the box",
+        root.get("viewBox"),
+        &format!("0 0 {width} {height}"),
+    )?;
+    let inside = |x: usize, y: usize| x <= width && y <= height;
+    for element in &elements[1..] {
+        let fits = match (element.name, element.class()) {
+            // The background, and the head of an arrow.
+            ("rect", "") => {
+                element.number("width")? == width && element.number("height")? == height
+            }
+            ("style" | "defs" | "marker", "") | ("path", "") => true,
+            ("rect", _) => inside(
+                element.number("x")? + element.number("width")?,
+                element.number("y")? + element.number("height")?,
+            ),
+            ("text", _) => inside(element.number("x")?, element.number("y")?),
+            ("path", "commit") => {
+                let shape = element.get("d").strip_suffix("l5 5l-5 5l-5-5z");
+                let (x, y) = point(shape.unwrap_or(""), "M")?;
+                x >= 5 && inside(x + 5, y + 10)
+            }
+            ("path", _) => {
+                let ((x1, y1), (x2, y2)) = way(element)?;
+                inside(x1, y1) && inside(x2, y2)
+            }
+            _ => false,
+        };
+        if !fits {
+            return Err(format!("{} {:?}", element.name, element.attributes));
+        }
+    }
+    Ok(())
+}
+
+/// Two numbers behind a letter.
+fn point(text: &str, letter: &str) -> Result<(usize, usize), String> {
+    let numbers = || {
+        let (x, y) = text.strip_prefix(letter)?.split_once(' ')?;
+        Some((x.parse().ok()?, y.parse().ok()?))
+    };
+    numbers().ok_or_else(|| format!("\"{text}\" is no point"))
+}
+
+type Point = (usize, usize);
+
+/// The ends of an arrow.
+fn way(element: &Element) -> Result<(Point, Point), String> {
+    let path = element.get("d");
+    let (from, to) = path.split_at(path.find('L').unwrap_or(0));
+    Ok((point(from, "M")?, point(to, "L")?))
+}
+
+/// The baselines of the rows: one for each frame, from top to bottom.
+fn rows(elements: &[Element], count: usize) -> Result<Vec<usize>, String> {
+    let lines = elements.iter().filter(|text| text.is("text", "line"));
+    let (mut rows, mut numbers) = (Vec::new(), Vec::new());
+    for line in lines {
+        rows.push(line.number("y")?);
+        numbers.push(line.text.to_string());
+    }
+    let expected = (0..count).map(|place| format!("{} [{place}]", place + 1));
+    same("the numbers of lines", numbers, expected.collect())?;
+    match rows.windows(2).all(|pair| pair[1] == pair[0] + 18) {
+        true => Ok(rows),
+        false => Err("rows that are not 18 high".into()),
+    }
+}
+
+/// Each frame has its label in its row and in its thread's lane.
+fn check_labels(elements: &[Element], asked: &Asked, rows: &[usize]) -> Done {
+    let texts = || elements.iter().filter(|element| element.name == "text");
+    let lanes = lanes_of(elements)?;
+    let threads: BTreeSet<u32> = asked.words.iter().map(|&word| thread_of(word)).collect();
+    let shown: Vec<u32> = lanes.iter().map(|lane| lane.1).collect();
+    same("the lanes", shown, threads.into_iter().collect())?;
+    let mut labels = Vec::new();
+    for label in texts() {
+        let x = label.number("x")?;
+        let of_frame = matches!(label.class(), "frame" | "late" | "wrong") && x >= 88;
+        if of_frame && !label.text.starts_with("thread ") {
+            let lane = lanes.iter().rev().find(|lane| lane.0 < x);
+            let thread = lane.map(|lane| lane.1);
+            labels.push((
+                label.number("y")?,
+                label.class(),
+                thread,
+                label.text.to_string(),
+            ));
+        }
+    }
+    labels.sort_unstable();
+    let expected = |(place, &word): (usize, &u32)| {
+        let class = match asked.violation {
+            Some(wrong) if place == wrong => "wrong",
+            Some(wrong) if place > wrong => "late",
+            _ => "frame",
+        };
+        (rows[place], class, Some(thread_of(word)), label_of(word))
+    };
+    let expected = asked.words.iter().enumerate().map(expected);
+    same("the labels", labels, expected.collect())
+}
+
+/// The arrows go as far as the displacements say, and what they lead to is the serial order.
+fn check_order(elements: &[Element], asked: &Asked, rows: &[usize]) -> Done {
+    let arrows = elements.iter().filter(|path| {
+        path.name == "path" && (path.class() == "stay" || path.class().starts_with("move t"))
+    });
+    let mut moves = Vec::new();
+    for (place, arrow) in arrows.enumerate() {
+        let ((_, y1), (_, y2)) = way(arrow)?;
+        let by = (y2 as i32 - y1 as i32) / 18;
+        let headed = arrow.get("marker-end") == "url(#to)";
+        let row = rows.get(place).map_or(0, |row| row - 4);
+        same(
+            "an arrow's start",
+            (y1, headed),
+            (row, arrow.class() != "stay"),
+        )?;
+        same("an arrow's end", y1 as i32 + 18 * by, y2 as i32)?;
+        same("an arrow's kind", headed, by != 0)?;
+        moves.push(by);
+    }
+    let mut order = Vec::new();
+    let mut said = Vec::new();
+    let labels = elements.iter().filter(|text| text.is("text", "frame"));
+    for label in labels.filter(|text| text.text.starts_with("thread ")) {
+        let text = label.text.split(" (").next().unwrap_or("");
+        order.push((label.number("y")?, text.to_string()));
+        said.push(label.text.to_string());
+    }
+    order.sort();
+    let (words, expected) = asked.order.clone().unwrap_or_default();
+    let name = |word: u32| format!("thread {}: {}", thread_of(word), label_of(word));
+    let by = |by: i32| match by {
+        0 => String::new(),
+        _ => format!(" ({by:+})"),
+    };
+    let named = rows
+        .iter()
+        .zip(&words)
+        .map(|(&row, &word)| (row, name(word)));
+    same("the serial order", order, named.collect())?;
+    let frames = asked.words.iter().zip(&expected);
+    let labels = frames
+        .map(|(&word, &moved)| name(word) + &by(moved))
+        .collect();
+    same("the order's labels", said, labels)?;
+    same("the displacements", moves, expected)
+}
+
 // Runs.
 
 struct Tool {
@@ -191,7 +860,9 @@ struct Tool {
     /// By command and label.
     counts: BTreeMap<(String, String), usize>,
     /// The lines of docs/TOOL.md, and how often each was printed.
-    lines: Vec<(&'static str, usize)>,
+    lines: Vec<(String, usize)>,
+    /// A text that this machine gives no reason for.
+    exempt: Option<String>,
 }
 
 fn shown<W: AsRef<[u8]>>(words: &[W]) -> String {
@@ -240,8 +911,14 @@ impl Tool {
                 printed.escape_ascii()
             ));
         }
-        let command = String::from_utf8_lossy(words[0].as_ref()).into_owned();
-        self.count(command, &String::from_utf8_lossy(&printed))
+        let command = words.first().map_or(&b"help"[..], |word| word.as_ref());
+        let command = String::from_utf8_lossy(command).into_owned();
+        let printed = String::from_utf8_lossy(&printed);
+        if parted(&printed).is_some() {
+            let wrong = |reason| format!("{}: {reason}\n{printed}", shown(words));
+            check_picture(words, &printed).map_err(wrong)?;
+        }
+        self.count(command, &printed)
     }
 
     /// The reference's answer.
@@ -264,11 +941,12 @@ impl Tool {
 
     fn count(&mut self, command: String, printed: &str) -> Done {
         *self.counts.entry((command, label(printed))).or_default() += 1;
+        let printed = parted(printed).map_or(printed, |(comment, _)| comment);
         // Verdict lines, serial orders and displacements, of which the document has an example.
         let listed = printed.starts_with(|first: char| first.is_ascii_digit() || first == '+');
         for line in printed.lines() {
             let mut known = self.lines.iter_mut();
-            match known.find(|(template, _)| *template == line || !listed && fits(template, line)) {
+            match known.find(|(template, _)| template == line || !listed && is_of(template, line)) {
                 Some((_, count)) => *count += 1,
                 None if listed => {}
                 None => return Err(format!("docs/TOOL.md has no line \"{line}\"")),
@@ -322,8 +1000,10 @@ const FIFTEEN: &str = "01000003 01000003 01000003 01000003 01000003 01000003 010
 const SIXTEEN: &str = "01000003 01000003 01000003 01000003 01000003 01000003 01000003 01000003 \
                        01000003 01000003 01000003 01000003 01000003 01000003 01000003 01000003";
 
+const NOTHING: &str = "reducible: there is nothing in the recording; frames: 0.\n";
+
 /// What is printed, given a recording and, for declared guards, a list.
-const LITERALS: [(&str, &str, Option<&str>, &str); 37] = [
+const LITERALS: [(&str, &str, Option<&str>, &str); 40] = [
     ("verdict", A, None, "03000401000000030000000000000001\n"),
     ("verdict", "", None, "00000000FFFFFFFF0000000000000000\n"),
     ("verdict", C, None, "00000A00FFFFFFFF0000000000000000\n"),
@@ -432,6 +1112,9 @@ const LITERALS: [(&str, &str, Option<&str>, &str); 37] = [
         Some(""),
         "reducible: no frame goes wrong; frames: 3.\n",
     ),
+    ("explain", "", None, NOTHING),
+    ("explain", "", Some(""), NOTHING),
+    ("explain", "", Some("00050002"), NOTHING),
     (
         "explain",
         AGAIN,
@@ -447,7 +1130,9 @@ const LITERALS: [(&str, &str, Option<&str>, &str); 37] = [
          It commits at line 4 [3]: release of lock 0.\n  \
          It goes wrong at line 5 [4]: acquire of lock 0.\n  \
          A block takes no new lock after its commit: between these lines another thread may \
-         change what the block has read or written.\n",
+         change what the block has read or written.\n  \
+         To mend it, take the lock before the commit and hold each lock until the block ends, \
+         or end the block before this line.\n",
     ),
     (
         "explain",
@@ -458,7 +1143,9 @@ const LITERALS: [(&str, &str, Option<&str>, &str); 37] = [
          It commits at line 5 [4]: release of lock 3.\n  \
          It goes wrong at line 6 [5]: acquire of lock 3.\n  \
          A block takes no new lock after its commit: between these lines another thread may \
-         change what the block has read or written.\n",
+         change what the block has read or written.\n  \
+         To mend it, take the lock before the commit and hold each lock until the block ends, \
+         or end the block before this line.\n",
     ),
     (
         "explain",
@@ -469,7 +1156,9 @@ const LITERALS: [(&str, &str, Option<&str>, &str); 37] = [
          It commits at line 2 [1]: read of variable 5.\n  \
          It goes wrong at line 3 [2]: read of variable 5.\n  \
          Variable 5 has no guard: another thread may change it, or what the block accessed \
-         before, between these lines.\n",
+         before, between these lines.\n  \
+         To mend it, end the block before this line, or name a guard of the variable and hold \
+         it at each access.\n",
     ),
     (
         "explain",
@@ -479,7 +1168,8 @@ const LITERALS: [(&str, &str, Option<&str>, &str); 37] = [
          The block begins at line 1 [0] and has not committed.\n  \
          It goes wrong at line 2 [1]: write of variable 5.\n  \
          The guard of variable 5 is lock 2, and thread 0 does not hold it: another thread may \
-         access the variable at the same time.\n",
+         access the variable at the same time.\n  \
+         To mend it, hold lock 2 at this line; in a block, take it before the commit.\n",
     ),
     (
         "explain",
@@ -489,7 +1179,8 @@ const LITERALS: [(&str, &str, Option<&str>, &str); 37] = [
          The thread is in no block.\n  \
          It goes wrong at line 1 [0]: read of variable 5.\n  \
          Locks left that may guard variable 5: all 64. Thread 0 holds none of them, so no one \
-         lock guards every access of the variable.\n",
+         lock guards every access of the variable.\n  \
+         To mend it, hold one lock at every access of the variable.\n",
     ),
     (
         "explain",
@@ -499,7 +1190,8 @@ const LITERALS: [(&str, &str, Option<&str>, &str); 37] = [
          The thread is in no block.\n  \
          It goes wrong at line 4 [3]: read of variable 5.\n  \
          Locks left that may guard variable 5: 1, 2. Thread 1 holds none of them, so no one \
-         lock guards every access of the variable.\n",
+         lock guards every access of the variable.\n  \
+         To mend it, hold one lock at every access of the variable.\n",
     ),
     (
         "explain",
@@ -571,7 +1263,13 @@ fn literals(tool: &mut Tool) -> Done {
 
 /// The lines of recordings A, E, G and D, of others, and of each refusal; the texts of
 /// docs/TOOL.md.
-const LITERAL_LINES: [(&str, &str); 34] = [
+const LITERAL_LINES: [(&str, &str); 38] = [
+    ("00000000FFFFFFFF0000000000000000", NOTHING),
+    ("00000001000000010000000000000001", NOTHING),
+    (
+        "00000100FFFFFFFF0000000000000000",
+        "reducible: no frame goes wrong; frames: 1.\n",
+    ),
     (
         "00000300FFFFFFFF0000000000000000",
         "reducible: no frame goes wrong; frames: 3.\n",
@@ -587,7 +1285,9 @@ const LITERAL_LINES: [(&str, &str); 34] = [
          It commits at line 4 [3].\n  \
          It goes wrong at line 5 [4].\n  \
          A block takes no new lock after its commit, here lock 0: between these lines another \
-         thread may change what the block has read or written.\n",
+         thread may change what the block has read or written.\n  \
+         To mend it, take the lock before the commit and hold each lock until the block ends, \
+         or end the block before this line.\n",
     ),
     (
         "03000401000000030000000000000000",
@@ -596,7 +1296,9 @@ const LITERAL_LINES: [(&str, &str); 34] = [
          It commits at line 4 [3].\n  \
          It goes wrong at line 5 [4].\n  \
          A block takes no new lock after its commit, here lock none: between these lines another \
-         thread may change what the block has read or written.\n",
+         thread may change what the block has read or written.\n  \
+         To mend it, take the lock before the commit and hold each lock until the block ends, \
+         or end the block before this line.\n",
     ),
     (
         "02000200000000010000000000000000",
@@ -605,7 +1307,9 @@ const LITERAL_LINES: [(&str, &str); 34] = [
          It commits at line 2 [1].\n  \
          It goes wrong at line 3 [2].\n  \
          The variable has no guard: another thread may change it, or what the block accessed \
-         before, between these lines.\n",
+         before, between these lines.\n  \
+         To mend it, end the block before this line, or name a guard of the variable and hold \
+         it at each access.\n",
     ),
     (
         "01000000FFFFFFFF0000000000000004",
@@ -613,7 +1317,17 @@ const LITERAL_LINES: [(&str, &str); 34] = [
          The thread is in no block.\n  \
          It goes wrong at line 1 [0].\n  \
          The guard of the variable is lock 2, and thread 0 does not hold it: another thread may \
-         access the variable at the same time.\n",
+         access the variable at the same time.\n  \
+         To mend it, hold lock 2 at this line; in a block, take it before the commit.\n",
+    ),
+    (
+        "01000000FFFF00000000000000000000",
+        "violation: kind 1, guard not held, by thread 0.\n  \
+         The thread is in no block.\n  \
+         It goes wrong at line 1 [0].\n  \
+         The guard of the variable is lock none, and thread 0 does not hold it: another thread may \
+         access the variable at the same time.\n  \
+         To mend it, hold lock none at this line; in a block, take it before the commit.\n",
     ),
     (
         "010001FF0000FFFF8000000000000001",
@@ -621,7 +1335,8 @@ const LITERAL_LINES: [(&str, &str); 34] = [
          The block begins at line 1 [0] and has not committed.\n  \
          It goes wrong at line 2 [1].\n  \
          The guard of the variable is lock 0, 63, and thread 255 does not hold it: another thread \
-         may access the variable at the same time.\n",
+         may access the variable at the same time.\n  \
+         To mend it, hold lock 0, 63 at this line; in a block, take it before the commit.\n",
     ),
     (
         "04000000FFFFFFFFFFFFFFFFFFFFFFFF",
@@ -629,7 +1344,8 @@ const LITERAL_LINES: [(&str, &str); 34] = [
          The thread is in no block.\n  \
          It goes wrong at line 1 [0].\n  \
          Locks left that may guard the variable: all 64. Thread 0 holds none of them, so no one \
-         lock guards every access of the variable.\n",
+         lock guards every access of the variable.\n  \
+         To mend it, hold one lock at every access of the variable.\n",
     ),
     (
         "04FFFF1FFFFEFFFE0000000000000000",
@@ -638,7 +1354,8 @@ const LITERAL_LINES: [(&str, &str); 34] = [
          It commits at line 65535 [65534].\n  \
          It goes wrong at line 65536 [65535].\n  \
          Locks left that may guard the variable: none. Thread 31 holds none of them, so no one \
-         lock guards every access of the variable.\n",
+         lock guards every access of the variable.\n  \
+         To mend it, hold one lock at every access of the variable.\n",
     ),
     (
         "81006400FFFFFFFF0000000000000000",
@@ -887,7 +1604,7 @@ fn furthest_moves(tool: &mut Tool) -> Done {
 }
 
 /// Two blocks of 2,048 frames each, of which the second commits first. Each displacement has a sign
-/// and four digits, so no answer of the tool is longer.
+/// and four digits, so no list of them is longer.
 fn longest_answer(tool: &mut Tool) -> Done {
     let inner = |thread, pairs| [word(BEGIN, thread, 0), word(END, thread, 0)].repeat(pairs);
     let committed = [ACQUIRE, RELEASE].map(|operation| word(operation, 1, 0));
@@ -909,7 +1626,8 @@ fn longest_answer(tool: &mut Tool) -> Done {
     write("recording", &text_of_words(&words))?;
     write("list", b"")?;
     tool.expect_text(&["moves", "recording"], &answer)?;
-    tool.expect_text(&["moves", "recording", "--guards", "list"], &answer)
+    tool.expect_text(&["moves", "recording", "--guards", "list"], &answer)?;
+    tool.expect(&["draw", "recording"])
 }
 
 // Refusals.
@@ -948,6 +1666,398 @@ fn refusals(tool: &mut Tool) -> Done {
         compare(tool, &left, &good)?;
         for right in refused_texts() {
             compare(tool, &left, &right)?;
+        }
+    }
+    Ok(())
+}
+
+// Pictures.
+
+/// Thread 0's block ends behind thread 1's acquire, which comes first in the serial order.
+const MOVED: &str = "05000000 01010000 06000000";
+const MOVED_START: &str = r##"<!-- reducible: no frame goes wrong; frames: 3. -->
+<svg xmlns="http://www.w3.org/2000/svg" width="832" height="162" viewBox="0 0 832 162" font-family="sans-serif" font-size="12">
+"##;
+const MOVED_REST: &str = r##"<rect width="832" height="162" fill="#fff"/>
+<text class="head" x="8" y="20">reducible: no frame goes wrong; frames: 3.</text>
+<text class="key" x="8" y="38">wide bar: atomic block; diamond: its commit; thin bar: lock held; arrow: to its place in the serial order</text>
+<text class="line" x="72" y="109" text-anchor="end">1 [0]</text>
+<text class="line" x="72" y="127" text-anchor="end">2 [1]</text>
+<text class="line" x="72" y="145" text-anchor="end">3 [2]</text>
+<text class="head" x="88" y="72">thread 0</text>
+<rect class="block t0" x="88" y="98" width="8" height="50"/>
+<path class="commit" d="M92 136l5 5l-5 5l-5-5z"/>
+<text class="frame" x="104" y="109">begin</text>
+<text class="frame" x="104" y="145">end</text>
+<text class="head" x="240" y="72">thread 1</text>
+<text class="number" x="243" y="88" text-anchor="middle">0</text>
+<rect class="k0" x="240" y="123" width="6" height="27"/>
+<text class="frame" x="256" y="127">acquire lock 0</text>
+<text class="head" x="578" y="72">serial order</text>
+<path class="move t0" d="M392 105L552 123" marker-end="url(#to)"/>
+<rect class="block t0" x="560" y="116" width="6" height="32"/>
+<text class="frame" x="578" y="127">thread 0: begin (+1)</text>
+<path class="move t1" d="M392 123L552 105" marker-end="url(#to)"/>
+<text class="frame" x="578" y="109">thread 1: acquire lock 0 (-1)</text>
+<path class="stay" d="M392 141L552 141"/>
+<text class="frame" x="578" y="145">thread 0: end</text>
+</svg>
+"##;
+
+/// Thread 8 reads without a lock; a frame behind that is not looked at, and its block is open.
+const GONE_WRONG: &str = "0109000B 03080005 05080000";
+const GONE_WRONG_START: &str = r##"<!-- violation: kind 4, candidate set emptied, by thread 8.
+  The thread is in no block.
+  It goes wrong at line 2 [1]: read of variable 5.
+  Locks left that may guard variable 5: all 64. Thread 8 holds none of them, so no one lock guards every access of the variable.
+  To mend it, hold one lock at every access of the variable. -->
+<svg xmlns="http://www.w3.org/2000/svg" width="920" height="234" viewBox="0 0 920 234" font-family="sans-serif" font-size="12">
+"##;
+const GONE_WRONG_REST: &str = r##"<rect width="920" height="234" fill="#fff"/>
+<text class="wrong" x="8" y="20">violation: kind 4, candidate set emptied, by thread 8.</text>
+<text class="why" x="8" y="38">  The thread is in no block.</text>
+<text class="why" x="8" y="56">  It goes wrong at line 2 [1]: read of variable 5.</text>
+<text class="why" x="8" y="74">  Locks left that may guard variable 5: all 64. Thread 8 holds none of them, so no one lock guards every access of the variable.</text>
+<text class="why" x="8" y="92">  To mend it, hold one lock at every access of the variable.</text>
+<text class="key" x="8" y="110">wide bar: atomic block; diamond: its commit; thin bar: lock held; arrow: to its place in the serial order</text>
+<text class="line" x="72" y="181" text-anchor="end">1 [0]</text>
+<text class="line" x="72" y="199" text-anchor="end">2 [1]</text>
+<text class="line" x="72" y="217" text-anchor="end">3 [2]</text>
+<text class="head" x="88" y="144">thread 8</text>
+<rect class="block t0" x="88" y="206" width="8" height="14"/>
+<rect class="mark" x="100" y="187" width="136" height="16"/>
+<text class="wrong" x="104" y="199">read variable 5</text>
+<text class="late" x="104" y="217">begin</text>
+<text class="head" x="240" y="144">thread 9</text>
+<text class="number" x="243" y="160" text-anchor="middle">11</text>
+<rect class="k3" x="240" y="177" width="6" height="45"/>
+<text class="frame" x="256" y="181">acquire lock 11</text>
+</svg>
+"##;
+
+/// Two pictures, but for the style, which stands on the page as it is printed.
+fn pictures(tool: &mut Tool) -> Done {
+    let style = section("draw")
+        .lines()
+        .filter_map(|line| line.strip_prefix("       "));
+    let style: String = style.map(|line| format!("{line}\n")).collect();
+    for (words, start, rest) in [
+        (MOVED, MOVED_START, MOVED_REST),
+        (GONE_WRONG, GONE_WRONG_START, GONE_WRONG_REST),
+    ] {
+        write("recording", &text(words))?;
+        let printed = [start, &style, rest].concat();
+        tool.expect_text(&["draw", "recording"], &printed)?;
+    }
+    Ok(())
+}
+
+/// The recordings in examples/, with and without their guards.
+fn examples(tool: &mut Tool) -> Done {
+    let folder = concat!(env!("CARGO_MANIFEST_DIR"), "/../../examples");
+    let mut files = 0;
+    for entry in context(fs::read_dir(folder), "listing the examples")? {
+        let path = context(entry, "listing the examples")?.path();
+        if path.extension() != Some(OsStr::new("txt")) {
+            continue;
+        }
+        files += 1;
+        write(
+            "recording",
+            &context(fs::read(&path), "reading an example")?,
+        )?;
+        tool.expect(&["draw", "recording"])?;
+        if let Ok(list) = fs::read(path.with_extension("guards")) {
+            write("list", &list)?;
+            tool.expect(&["draw", "recording", "--guards", "list"])?;
+        }
+    }
+    match files {
+        0 => Err("no example found".into()),
+        _ => Ok(()),
+    }
+}
+
+/// Most threads, locks, blocks, holds and frames.
+fn greatest_pictures(tool: &mut Tool, random: &mut Random) -> Done {
+    let begins = all_deep(random, BEGIN);
+    let ends = all_deep(random, END);
+    let deep = [&begins[..], &ends].concat();
+    let locks = all_locks(random, 31);
+    let freed: Vec<u32> = locks
+        .iter()
+        .map(|lock| lock + (RELEASE - ACQUIRE << 24))
+        .collect();
+    let held = [&locks[..], &freed].concat();
+    let nested = [&pairs(1)[..], &deep[..480], &locks].concat();
+    let mut again = [word(ACQUIRE, 0, 63)].repeat(15);
+    again.extend([word(RELEASE, 0, 63)].repeat(15));
+    let again = again.repeat(3);
+    for words in [begins, deep, locks.clone(), held, nested, again] {
+        judge(tool, &text_of_words(&words), &[b""])?;
+    }
+    for (blocks, steps) in [(4, 32), (1, 128), (16, 8)] {
+        let made = alternation(random, blocks, steps);
+        let list = exact_list(random, &made.guards);
+        judge(tool, &text_of_words(&made.words), &[&list, b""])?;
+    }
+    Ok(())
+}
+
+fn random_pictures(tool: &mut Tool, random: &mut Random) -> Done {
+    for number in 0..RANDOM_PICTURES {
+        let made = match number % 3 {
+            0 => lock_walk(random),
+            1 => hold_walk(random),
+            _ => {
+                let words = nesting_walk(random);
+                trace_tests::random::Recording {
+                    words,
+                    guards: Vec::new(),
+                }
+            }
+        };
+        write("recording", &text_of_words(&made.words))?;
+        write("list", &exact_list(random, &made.guards))?;
+        tool.expect(&["draw", "recording"])?;
+        tool.expect(&["draw", "recording", "--guards", "list"])?;
+    }
+    Ok(())
+}
+
+// Lines that are not eight digits and an LF.
+
+fn refused_by_byte(place: usize, file: &str, fault: &str) -> String {
+    let line = place + 1;
+    format!(
+        "refused: number 1, line {line} [{place}] of {file} is not eight digits 0-9 A-F and one \
+         LF: {fault}\n"
+    )
+}
+
+const MARK: &str = "a byte-order mark; save the file without it.";
+const NO_LF: &str = "so the last line has no LF; add it.";
+const ENDED: &str = "so there are too few digits and no LF; write eight and an LF.";
+const BLANK_LINE: &str = "an LF, so the line is blank; drop it.";
+const FEW: &str = "an LF, so there are too few digits; write eight.";
+const CR: &str = "a CR; end each line with LF alone.";
+const BLANK: &str = "a blank or a tab; write none.";
+const MANY: &str = "a digit too many; write eight.";
+const NOT_LF: &str = "not the LF; end the line behind eight digits.";
+const LOWER: &str = "a lower-case letter; write A-F.";
+const NO_DIGIT: &str = "not a digit; write 0-9 A-F.";
+
+/// The rest of a text, from the start of a faulty line on: its column, its byte and WHAT.
+const FAULTS: [(&[u8], usize, u8, &str); 84] = [
+    (b"\n", 1, 0x0A, BLANK_LINE),
+    (b"\n\n", 1, 0x0A, BLANK_LINE),
+    (b"\n05000000\n", 1, 0x0A, BLANK_LINE),
+    (b"\r", 1, 0x0D, CR),
+    (b"\r\n", 1, 0x0D, CR),
+    (b" ", 1, 0x20, BLANK),
+    (b" 05000000\n", 1, 0x20, BLANK),
+    (b"\t05000000\n", 1, 0x09, BLANK),
+    (b"a5000000\n", 1, 0x61, LOWER),
+    (b"f", 1, 0x66, LOWER),
+    (b"`5000000\n", 1, 0x60, NO_DIGIT),
+    (b"g5000000\n", 1, 0x67, NO_DIGIT),
+    (b"G5000000\n", 1, 0x47, NO_DIGIT),
+    (b"@5000000\n", 1, 0x40, NO_DIGIT),
+    (b"/5000000\n", 1, 0x2F, NO_DIGIT),
+    (b":5000000\n", 1, 0x3A, NO_DIGIT),
+    (b"#5000000\n", 1, 0x23, NO_DIGIT),
+    (b"\x0B5000000\n", 1, 0x0B, NO_DIGIT),
+    (b"\x7F5000000\n", 1, 0x7F, NO_DIGIT),
+    (b"\x805000000\n", 1, 0x80, NO_DIGIT),
+    (b"\0", 1, 0x00, NO_DIGIT),
+    (&[0; 40], 1, 0x00, NO_DIGIT),
+    (&[0xFF; 40], 1, 0xFF, NO_DIGIT),
+    // The starts of byte-order marks, and digits of full width.
+    (b"\xEF", 1, 0xEF, NO_DIGIT),
+    (b"\xEF\xBB", 1, 0xEF, NO_DIGIT),
+    (b"\xEF\xBB05000000\n", 1, 0xEF, NO_DIGIT),
+    (b"\xEF\xBF\xBB05000000\n", 1, 0xEF, NO_DIGIT),
+    (b"\xEF\xBC\x91\xEF\xBC\x91\n", 1, 0xEF, NO_DIGIT),
+    (b"\xFF", 1, 0xFF, NO_DIGIT),
+    (b"\xFF\xFF\xFE", 1, 0xFF, NO_DIGIT),
+    (b"\xFE", 1, 0xFE, NO_DIGIT),
+    (b"\xFE\xFE\xFF", 1, 0xFE, NO_DIGIT),
+    (b"\xBB\xBF05000000\n", 1, 0xBB, NO_DIGIT),
+    // UTF-16 without a mark.
+    (b"\x000\x005\x000\x000", 1, 0x00, NO_DIGIT),
+    (b"0\x005\x000\x000\x00", 2, 0x00, NO_DIGIT),
+    (b"0\n", 2, 0x0A, FEW),
+    (b"5\n5000000\n", 2, 0x0A, FEW),
+    (b"0\r\n", 2, 0x0D, CR),
+    (b"0 000000\n", 2, 0x20, BLANK),
+    (b"0\t000000\n", 2, 0x09, BLANK),
+    (b"0a000000\n", 2, 0x61, LOWER),
+    (b"0f000000\n", 2, 0x66, LOWER),
+    (b"0x05000000\n", 2, 0x78, NO_DIGIT),
+    (b"0g000000\n", 2, 0x67, NO_DIGIT),
+    (b"0\xEF\xBB\xBF0000\n", 2, 0xEF, NO_DIGIT),
+    (b"0\xFF000000\n", 2, 0xFF, NO_DIGIT),
+    (b"05,000000\n", 3, 0x2C, NO_DIGIT),
+    (b"050 0000\n", 4, 0x20, BLANK),
+    (b"0500\n0000\n", 5, 0x0A, FEW),
+    (b"05000\r\n", 6, 0x0D, CR),
+    (b"050000b0\n", 7, 0x62, LOWER),
+    (b"0500000\n", 8, 0x0A, FEW),
+    (b"0500000\n0\n", 8, 0x0A, FEW),
+    (b"0500000\r\n", 8, 0x0D, CR),
+    (b"0500000 \n", 8, 0x20, BLANK),
+    (b"0500000\t\n", 8, 0x09, BLANK),
+    (b"0500000a\n", 8, 0x61, LOWER),
+    (b"0500000f\n", 8, 0x66, LOWER),
+    (b"0500000g\n", 8, 0x67, NO_DIGIT),
+    (b"0500000G\n", 8, 0x47, NO_DIGIT),
+    (b"0500000\0\n", 8, 0x00, NO_DIGIT),
+    (b"0500000\xFF\n", 8, 0xFF, NO_DIGIT),
+    (b"05000000\r", 9, 0x0D, CR),
+    (b"05000000\r\n", 9, 0x0D, CR),
+    (b"05000000\r\n06000000\r\n", 9, 0x0D, CR),
+    (b"05000000 \n", 9, 0x20, BLANK),
+    (b"05000000\t\n", 9, 0x09, BLANK),
+    (b"05000000 begin\n", 9, 0x20, BLANK),
+    (b"050000000", 9, 0x30, MANY),
+    (b"050000009\n", 9, 0x39, MANY),
+    (b"05000000A\n", 9, 0x41, MANY),
+    (b"05000000F\n", 9, 0x46, MANY),
+    (b"05000000a\n", 9, 0x61, MANY),
+    (b"05000000f\n", 9, 0x66, MANY),
+    (b"05000000`\n", 9, 0x60, NOT_LF),
+    (b"05000000g\n", 9, 0x67, NOT_LF),
+    (b"05000000G\n", 9, 0x47, NOT_LF),
+    (b"05000000@\n", 9, 0x40, NOT_LF),
+    (b"05000000/\n", 9, 0x2F, NOT_LF),
+    (b"05000000:\n", 9, 0x3A, NOT_LF),
+    (b"05000000;\n", 9, 0x3B, NOT_LF),
+    (b"05000000\0", 9, 0x00, NOT_LF),
+    (b"05000000\xEF\xBB\xBF\n", 9, 0xEF, NOT_LF),
+    (b"05000000\xFF\n", 9, 0xFF, NOT_LF),
+];
+
+/// Texts with a byte-order mark at the start, which is no mark on a later line.
+const MARKED: [(&[u8], u8); 11] = [
+    (b"\xEF\xBB\xBF", 0xEF),
+    (b"\xEF\xBB\xBF\n", 0xEF),
+    (b"\xEF\xBB\xBF05000000\n06000000\n", 0xEF),
+    (b"\xEF\xBB\xBF05000000\r\n06000000\r\n", 0xEF),
+    (b"\xFF\xFE\n", 0xFF),
+    (b"\xFF\xFE\xFF", 0xFF),
+    (
+        b"\xFF\xFE0\x005\x000\x000\x000\x000\x000\x000\x00\n\x00",
+        0xFF,
+    ),
+    (b"\xFF\xFE05000000\n", 0xFF),
+    (b"\xFE\xFF\0", 0xFE),
+    (
+        b"\xFE\xFF\x000\x005\x000\x000\x000\x000\x000\x000\x00\n",
+        0xFE,
+    ),
+    (b"\xFE\xFF05000000\n", 0xFE),
+];
+
+/// Texts of two bytes that would be a mark with a third.
+const UNMARKED: [(&[u8], u8); 2] = [(b"\xFF\xFE", 0xFF), (b"\xFE\xFF", 0xFE)];
+
+/// Lines that are sound as frames and as guard lines.
+const SOUND_LINES: &[u8] = b"01000000\n02000000\n";
+
+/// A text that is refused by 1 at a place, as a recording, as a list, as the left and as the right
+/// recording.
+fn faulty(tool: &mut Tool, text: &[u8], place: usize, fault: &str) -> Done {
+    write("faulty", text)?;
+    write("good", SOUND_LINES)?;
+    // Each fault with all commands would be many runs.
+    let turn = text.len() + place;
+    let [of_recording, of_list] = [turn, turn / 4].map(|turn| TELLING[turn % 4]);
+    let printed = refused_by_byte(place, RECORDING, fault);
+    tool.expect_text(&[of_recording, "faulty"], &printed)?;
+    let printed = refused_by_byte(place, GUARD_LIST, fault);
+    tool.expect_text(&[of_list, "good", "--guards", "faulty"], &printed)?;
+    let printed = refused_by_byte(place, LEFT, fault);
+    tool.expect_text(&["equal", "faulty", "good"], &printed)?;
+    let printed = refused_by_byte(place, RIGHT, fault);
+    tool.expect_text(&["equal", "good", "faulty"], &printed)
+}
+
+fn faults(tool: &mut Tool) -> Done {
+    // On the first line and on a later one.
+    let lines = |count: usize| &SOUND_LINES[..9 * count];
+    for (rest, column, byte, what) in FAULTS {
+        let fault = format!("column {column} has byte {byte:02X}, {what}");
+        for place in [0, 2] {
+            faulty(tool, &[lines(place), rest].concat(), place, &fault)?;
+        }
+    }
+    for (rest, byte) in MARKED {
+        let fault = format!("column 1 has byte {byte:02X}, {MARK}");
+        faulty(tool, rest, 0, &fault)?;
+        let fault = format!("column 1 has byte {byte:02X}, {NO_DIGIT}");
+        faulty(tool, &[lines(1), rest].concat(), 1, &fault)?;
+    }
+    for (rest, byte) in UNMARKED {
+        let fault = format!("column 1 has byte {byte:02X}, {NO_DIGIT}");
+        faulty(tool, rest, 0, &fault)?;
+        faulty(tool, &[lines(1), rest].concat(), 1, &fault)?;
+    }
+    for column in 2..=9 {
+        let what = if column == 9 { NO_LF } else { ENDED };
+        let fault = format!("column {column} is behind the end of the file, {what}");
+        for place in [0, 1, 2] {
+            let rest = &b"05000000"[..column - 1];
+            faulty(tool, &[lines(place), rest].concat(), place, &fault)?;
+        }
+    }
+    // The list is told before the recording, and the left recording before the right.
+    write("faulty", b"\n")?;
+    write("list", b"0")?;
+    let printed = refused_by_byte(
+        0,
+        GUARD_LIST,
+        &format!("column 2 is behind the end of the file, {ENDED}"),
+    );
+    for command in TELLING {
+        tool.expect_text(&[command, "faulty", "--guards", "list"], &printed)?;
+    }
+    let printed = refused_by_byte(0, LEFT, &format!("column 1 has byte 0A, {BLANK_LINE}"));
+    tool.expect_text(&["equal", "faulty", "list"], &printed)
+}
+
+/// Recordings and lists with a byte changed, put in or taken away, or with the end cut off.
+fn random_faults(tool: &mut Tool, random: &mut Random) -> Done {
+    const BYTES: &[u8] = b"09AFafgG@/:` \t\r\n\0\x7F\x80\xEF\xBB\xBF\xFE\xFF";
+    for _ in 0..RANDOM_FAULTS {
+        let count = random.between(1, 20);
+        let words = match random.chance(500) {
+            true => interleaved(random, count, true).words,
+            false => guard_lines(random, count),
+        };
+        let mut text = [SOUND_LINES, &text_of_words(&words)].concat();
+        let byte = match random.chance(700) {
+            true => random.pick(BYTES),
+            false => random.draw() as u8,
+        };
+        // Every column is as likely, and the first lines more than others.
+        let lines = text.len() / 9;
+        let most = random.pick(&[1, 3, MOST_FRAMES]);
+        let line = random.below(lines.min(most));
+        let place = 9 * line + random.below(9);
+        match random.below(5) {
+            0 => text.insert(place, byte),
+            1 => drop(text.remove(place)),
+            2 => text.truncate(place),
+            _ => text[place] = byte,
+        }
+        write("recording", &text)?;
+        write("good", SOUND_LINES)?;
+        let command = random.pick(&TELLING);
+        match random.below(4) {
+            0 => tool.expect(&[command, "recording"])?,
+            1 => tool.expect(&[command, "good", "--guards", "recording"])?,
+            2 => tool.expect(&["equal", "recording", "good"])?,
+            _ => tool.expect(&["equal", "good", "recording"])?,
         }
     }
     Ok(())
@@ -1104,6 +2214,7 @@ fn long_literals(tool: &mut Tool) -> Done {
         tool.expect_text(&words("verdict"), TOO_LONG)?;
         tool.expect_text(&words("serial"), &too_long(RECORDING))?;
         tool.expect_text(&words("moves"), &too_long(RECORDING))?;
+        tool.expect_text(&words("draw"), &too_long(RECORDING))?;
         tool.expect_text(&words("explain"), &too_long(RECORDING))?;
     }
     tool.expect_text(&["equal", "long", "good"], &too_long(LEFT))?;
@@ -1120,25 +2231,21 @@ fn long_literals(tool: &mut Tool) -> Done {
     write("list", &text(&"00000000 00010000 ".repeat(5000)))?;
     tool.expect_text(&["explain", "long", "--guards", "list"], named)?;
     // A faulty line decides before the length, and the left recording before the right.
-    let faulty = |line: &str| {
-        format!(
-            "refused: number 1, {line} is not eight digits 0-9 A-F and one LF; write it so, \
-             without blanks, lower case or CR, and end the last line.\n"
+    let faulty = |file| {
+        refused_by_byte(
+            100,
+            file,
+            "column 8 has byte 61, a lower-case letter; write A-F.",
         )
     };
     write("faulty", &long_with(100, b'a'))?;
     tool.expect_text(&["verdict", "faulty"], "81006400FFFFFFFF0000000000000000\n")?;
-    tool.expect_text(
-        &["explain", "faulty"],
-        &faulty("line 101 [100] of the recording"),
-    )?;
-    tool.expect_text(
-        &["equal", "faulty", "long"],
-        &faulty("line 101 [100] of the left recording"),
-    )?;
+    tool.expect_text(&["explain", "faulty"], &faulty(RECORDING))?;
+    tool.expect_text(&["equal", "faulty", "long"], &faulty(LEFT))?;
     tool.expect_text(&["equal", "long", "faulty"], &too_long(LEFT))?;
     // A file without an end is read no further.
-    let zero = faulty("line 1 [0] of the recording").into_bytes();
+    let zero = "column 1 has byte 00, not a digit; write 0-9 A-F.";
+    let zero = refused_by_byte(0, RECORDING, zero).into_bytes();
     tool.expect_one(&["explain", "/dev/zero"], &[zero])?;
     for name in ["long", "faulty"] {
         context(fs::remove_file(name), "removing a file")?;
@@ -1183,32 +2290,94 @@ fn names(tool: &mut Tool) -> Done {
     Ok(())
 }
 
+/// A name that cannot be read, and why.
+fn cannot_read(tool: &mut Tool, name: &str, why: &str) -> Done {
+    let printed = format!("error: cannot read {name}: {why}\n");
+    for words in [
+        &["verdict", name][..],
+        &["draw", name],
+        &["explain", "good", "--guards", name],
+        &["draw", "good", "--guards", name],
+        &["equal", name, "good"],
+        &["equal", "good", name],
+    ] {
+        tool.expect_text(words, &printed)?;
+    }
+    Ok(())
+}
+
 fn unreadable(tool: &mut Tool) -> Done {
+    const MISSING: &str = "no such file";
+    const FOLDER: &str = "it is a directory";
+    const TOO_LONG: &str = "the name is too long";
     context(fs::create_dir("folder"), "creating a folder")?;
+    context(symlink("loop", "loop"), "linking")?;
+    context(symlink("missing", "astray"), "linking")?;
+    context(symlink("folder", "link"), "linking")?;
+    write("recording", &text(A))?;
+    write("good", &text(A))?;
     let long = ["m".repeat(255), "/m".repeat(1920)].concat();
     assert_eq!(long.len(), 4095);
-    for name in [
-        "missing",
-        "folder",
-        ".",
-        "recording/",
-        "missing/recording",
-        &long,
-        &"m".repeat(5000),
+    let longer = format!("{}/recording", "./".repeat(2043));
+    assert_eq!(longer.len(), 4096);
+    for (name, why) in [
+        ("missing", MISSING),
+        ("missing/", MISSING),
+        ("missing/recording", MISSING),
+        ("recording/", MISSING),
+        ("recording/recording", MISSING),
+        ("folder/missing", MISSING),
+        ("astray", MISSING),
+        (&"m".repeat(255), MISSING),
+        (&long, MISSING),
+        (&format!("missing/{}", "m".repeat(256)), MISSING),
+        ("folder", FOLDER),
+        ("folder/", FOLDER),
+        ("link", FOLDER),
+        (".", FOLDER),
+        ("/", FOLDER),
+        (&"m".repeat(256), TOO_LONG),
+        (&format!("folder/{}", "m".repeat(256)), TOO_LONG),
+        (&longer, TOO_LONG),
+        (&"m".repeat(4096), TOO_LONG),
+        (&"m".repeat(5000), TOO_LONG),
+        (&"./".repeat(20_000), TOO_LONG),
+        ("loop", "error number 40 of the system"),
+        ("loop/recording", "error number 40 of the system"),
     ] {
-        in_each_place(tool, name)?;
-        tool.expect_text(&["verdict", name], &format!("error: cannot read {name}\n"))?;
+        cannot_read(tool, name, why)?;
     }
+    for name in ["missing", "folder", "loop"] {
+        in_each_place(tool, name)?;
+    }
+    for link in ["loop", "astray", "link"] {
+        context(fs::remove_file(link), "removing a link")?;
+    }
+    no_permission(tool)
+}
+
+/// A process with all rights may read a file without permission, but not one that the system's own
+/// file system says may only be written.
+fn no_permission(tool: &mut Tool) -> Done {
+    const WHY: &str = "no permission";
+    const NO_PERMISSION: i32 = 13;
     write("closed", &text(A))?;
     context(
         fs::set_permissions("closed", Permissions::from_mode(0o000)),
         "closing a file",
     )?;
-    if read(b"closed").is_some() {
-        println!("skipped: a file without permission, which this process may read");
-    } else {
-        tool.expect_text(&["verdict", "closed"], "error: cannot read closed\n")?;
-        in_each_place(tool, "closed")?;
+    let names = [
+        "closed",
+        "/proc/sys/vm/compact_memory",
+        "/proc/sys/vm/drop_caches",
+    ];
+    let refuses = |name: &&str| read(name.as_bytes()) == Err(NO_PERMISSION);
+    match names.into_iter().find(refuses) {
+        Some(name) => cannot_read(tool, name, WHY)?,
+        None => {
+            println!("skipped: a file without permission, which this process may read");
+            tool.exempt = Some(format!("error: cannot read NAME: {WHY}"));
+        }
     }
     // A file that may only be read.
     context(
@@ -1218,23 +2387,29 @@ fn unreadable(tool: &mut Tool) -> Done {
     in_each_place(tool, "closed")
 }
 
-/// Two faults. Where one of them is the recording that cannot be read, or the right one, the
-/// document leaves open which is told.
+/// Two faults: all files are read before any is checked, in the order of the words.
 fn two_faults(tool: &mut Tool) -> Done {
     write("refused", &text(J[0]))?;
     write("list", b"x")?;
-    let error = |name: &str| format!("error: cannot read {name}\n").into_bytes();
-    let both = [error("missing"), error("absent")];
-    tool.expect_one(&["equal", "missing", "absent"], &both)?;
-    let refused = reference(&["equal", "refused", "refused"]);
-    tool.expect_one(&["equal", "refused", "absent"], &[refused, error("absent")])?;
-    tool.expect(&["equal", "absent", "refused"])?;
+    let error = |name: &str| format!("error: cannot read {name}: no such file\n");
+    let empty = "error: a file name is empty\n";
+    tool.expect_text(&["equal", "missing", "absent"], &error("missing"))?;
+    tool.expect_text(&["equal", "refused", "absent"], &error("absent"))?;
+    tool.expect_text(&["equal", "absent", "refused"], &error("absent"))?;
+    tool.expect_text(&["equal", "missing", ""], &error("missing"))?;
+    tool.expect_text(&["equal", "", "missing"], empty)?;
     for command in JUDGING {
-        tool.expect_one(&[command, "missing", "--guards", "absent"], &both)?;
-        let refused = reference(&[command, "refused", "--guards", "list"]);
-        let words = [command, "absent", "--guards", "list"];
-        tool.expect_one(&words, &[refused, error("absent")])?;
-        tool.expect(&[command, "refused", "--guards", "absent"])?;
+        for (recording, list, printed) in [
+            ("missing", "absent", &error("missing")[..]),
+            ("absent", "list", &error("absent")),
+            ("refused", "absent", &error("absent")),
+            ("missing", "", &error("missing")),
+            ("", "missing", empty),
+            ("", "", empty),
+            ("refused", "", empty),
+        ] {
+            tool.expect_text(&[command, recording, "--guards", list], printed)?;
+        }
     }
     Ok(())
 }
@@ -1255,18 +2430,49 @@ fn no_such_command(tool: &mut Tool) -> Done {
         "lin",
         "Moves",
         "move",
-        "help",
-        "--help",
+        "Draw",
+        "draws",
+        "dra",
+        "Help",
+        "helps",
+        "hel",
+        "help ",
+        " help",
+        "-help",
+        "--hel",
+        "--helps",
+        "--Help",
+        "h",
+        "-H",
+        "-hh",
+        "--h",
+        "version",
+        "-version",
+        "--Version",
+        "--versio",
+        "--versions",
+        "-v",
+        "-V",
+        "-",
+        "--",
         "--guards",
         "recording",
     ] {
-        let printed = format!("error: no such command: {name}\n");
+        let printed = format!(
+            "error: no such command: {name}\n\
+             commands: verdict, serial, moves, draw, equal, explain, line, help\n"
+        );
         tool.expect_text(&[name], &printed)?;
         tool.expect_text(&[name, "recording"], &printed)?;
         tool.expect_text(&[name, "recording", "--guards", "list"], &printed)?;
     }
+    tool.expect_text(&["", "help"], NO_NAME)?;
+    tool.expect(&["m".repeat(5000)])?;
     tool.expect(&[b"\xFF\xFE"])
 }
+
+const NO_NAME: &str = "error: no such command: \n\
+                       commands: verdict, serial, moves, draw, equal, explain, line, help\n";
 
 /// Words that are none of the uses of the commands on one recording.
 const WRONG: [&str; 15] = [
@@ -1306,7 +2512,7 @@ fn wrong_use(tool: &mut Tool) -> Done {
     ] {
         tool.expect_text(words, printed)?;
     }
-    let (printed, line) = ("error: use: tracetool line LINE\n", LITERAL_LINES[2].0);
+    let (printed, line) = ("error: use: tracetool line LINE\n", LITERAL_LINES[5].0);
     for words in [
         &["line"][..],
         &["line", line, line],
@@ -1340,17 +2546,42 @@ fn bad_use(tool: &mut Tool) -> Done {
     empty_names(tool)
 }
 
-/// The help begins with the uses of the document, but for the help itself. What follows them is
-/// left open.
+/// The help has the uses that the page begins with. What stands behind the words that ask for it,
+/// or for the version, is not looked at.
 fn help(tool: &mut Tool) -> Done {
-    let printed = tool.run::<&str>(&[])?;
-    let printed = String::from_utf8_lossy(&printed);
-    let uses: Vec<&str> = uses();
-    let (_, commands) = uses.split_last().expect("uses");
-    let expected = format!("usage: {}\n", commands.join("\n       "));
-    let named = |command: &&str| expected.contains(command);
-    if !COMMANDS.iter().all(named) || !printed.starts_with(&expected) || !printed.ends_with('\n') {
-        return Err(format!("the help is \"{printed}\", not \"{expected}\""));
+    let (help, version) = help_texts();
+    if !help.starts_with(&format!("usage: {}\n", uses().join("\n       "))) {
+        return Err(format!("the help lacks a use: \"{help}\""));
+    }
+    if let Some(command) = COMMANDS.iter().find(|command| !help.contains(*command)) {
+        return Err(format!("the help lacks {command}"));
+    }
+    tool.expect_text::<&str>(&[], &help)?;
+    let behind: [&[&str]; 8] = [
+        &[],
+        &[""],
+        &["help"],
+        &["--version"],
+        &["missing"],
+        &["verdict", "missing"],
+        &["verdict", "recording", "--guards"],
+        &["equal", "a", "b", "c", "d", "e"],
+    ];
+    for words in behind {
+        for name in ["help", "--help", "-h"] {
+            tool.expect_text(&[&[name], words].concat(), &help)?;
+        }
+        tool.expect_text(&[&["--version"], words].concat(), &version)?;
+    }
+    tool.expect_text(&["--version"], "tracetool 1.0.0\n")?;
+    // Behind a command they are file names.
+    for name in ["help", "--help", "-h", "--version"] {
+        let printed = format!("error: cannot read {name}: no such file\n");
+        for command in JUDGING {
+            tool.expect_text(&[command, name], &printed)?;
+        }
+        tool.expect_text(&["equal", name, name], &printed)?;
+        tool.expect_text(&["line", name], NO_LINE)?;
     }
     Ok(())
 }
@@ -1378,9 +2609,9 @@ fn report(tool: &Tool) -> Done {
         .iter()
         .filter(|((name, _), _)| !COMMANDS.contains(&&name[..]));
     let runs: usize = others.map(|(_, count)| count).sum();
-    println!("no such command: {runs} runs");
+    println!("other words: {runs} runs");
     for (line, count) in &tool.lines {
-        if *count == 0 {
+        if *count == 0 && tool.exempt.as_ref() != Some(line) {
             absent.push(line.to_string());
         }
     }
@@ -1396,11 +2627,14 @@ fn test(program: &OsStr, seed: u64) -> Result<usize, String> {
     let mut tool = Tool {
         program,
         counts: BTreeMap::new(),
-        lines: templates().into_iter().map(|line| (line, 0)).collect(),
+        lines: answer_lines().into_iter().map(|line| (line, 0)).collect(),
+        exempt: None,
     };
     let random = &mut Random::new(seed);
     help(&mut tool)?;
     literals(&mut tool)?;
+    pictures(&mut tool)?;
+    faults(&mut tool)?;
     worked_recordings(&mut tool)?;
     furthest_moves(&mut tool)?;
     longest_answer(&mut tool)?;
@@ -1412,6 +2646,10 @@ fn test(program: &OsStr, seed: u64) -> Result<usize, String> {
     names(&mut tool)?;
     unreadable(&mut tool)?;
     two_faults(&mut tool)?;
+    examples(&mut tool)?;
+    greatest_pictures(&mut tool, random)?;
+    random_pictures(&mut tool, random)?;
+    random_faults(&mut tool, random)?;
     random_recordings(&mut tool, random)?;
     random_pairs(&mut tool, random)?;
     random_long(&mut tool, random)?;

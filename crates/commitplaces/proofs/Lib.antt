@@ -1,0 +1,2 @@
+-- Turns: the loop of `walk`.
+mod Turns

@@ -1,0 +1,2 @@
+-- What a reader must believe of where units commit.
+pub mod CommitPlaces

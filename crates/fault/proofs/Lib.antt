@@ -1,0 +1,2 @@
+-- Laws of the digits that stand first on a line.
+pub mod Laws

@@ -1,0 +1,2 @@
+-- Sentences: the sentences as lines of one text.
+mod Sentences

@@ -1,0 +1,2 @@
+-- Laws of a text with numbers in it.
+mod Laws
