@@ -1,7 +1,7 @@
 /*
  * The trace check: recording text in, one verdict line out, guards inferred; and the names that
- * both headers use. trace_library.h has the other functions. Link with -ltrace: the library has
- * every function of both headers.
+ * both headers use. trace_library.h has the other functions. Link with -lgambozuri: the library
+ * has every function of both headers.
  *
  * Constants are plain numbers or enumerators, and every macro evaluates each argument once.
  * Arguments of macros are unsigned, constants or enumerators.

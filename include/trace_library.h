@@ -1,6 +1,6 @@
 /*
  * The parts of the trace check: text read and written, guard lists, verdicts, equality, serial
- * orders and displacements on words, verdict lines read and written.
+ * orders, displacements and commits on words, verdict lines read and written, answers in words.
  *
  * Every pointer must be valid for its length (counted in elements), aligned for its element type
  * and not null even if the length is 0. A buffer that is written must not overlap another.
@@ -9,7 +9,7 @@
  * A uint64_t reply holds the refusal's number in the high 32 bits, 0 if there is none. The low
  * 32 bits hold the refusal's place, or without one the count answered. trace_equal adds to this.
  * trace_check.h has names for limits, operations, kinds and refusals, and macros that take a reply
- * apart; it also says what the figures of stacks count. Link with -ltrace.
+ * apart; it also says what the figures of stacks count. Link with -lgambozuri.
  */
 #ifndef TRACE_LIBRARY_H
 #define TRACE_LIBRARY_H
@@ -134,6 +134,31 @@ uint64_t trace_moves_inferred(const uint32_t *words, size_t words_len, int32_t *
                               size_t moves_len);
 
 /*
+ * Where each unit commits, with declared guards. A unit is an atomic block, from its outermost
+ * begin to its end, or one frame outside any block; a block commits at the frame that takes it
+ * after commit, or at its end. commits[p] becomes c + 1 for each unit that starts at p and commits
+ * at c. All other entries keep their contents: those of frames inside blocks, and of a block that
+ * is open at the end and has not committed. Units that start at commits_len or behind are left out.
+ * The recording need not be reducible: a violation stops nothing here.
+ * Count: words_len. Refusals in order: 1, 11, 12 of the list (place: line); 2 words_len is above
+ * 4,096 (place 4096); 4 to 10 or 20 of the first frame that fails (place: frame). A refusal writes
+ * nothing.
+ * Stack: at most TRACE_STACK_COMMITS_DECLARED bytes.
+ */
+#define TRACE_STACK_COMMITS_DECLARED 6144
+uint64_t trace_commits_declared(const uint8_t *list, size_t list_len, const uint32_t *words,
+                                size_t words_len, uint32_t *commits, size_t commits_len);
+
+/*
+ * Where each unit commits, with inferred guards: count, refusals and commits as for
+ * trace_commits_declared, without 1, 11 and 12.
+ * Stack: at most TRACE_STACK_COMMITS_INFERRED bytes.
+ */
+#define TRACE_STACK_COMMITS_INFERRED 6144
+uint64_t trace_commits_inferred(const uint32_t *words, size_t words_len, uint32_t *commits,
+                                size_t commits_len);
+
+/*
  * Writes a sound recording as text, a line for each frame, from place on. It need not be
  * reducible, nor its blocks closed.
  * Count: the bytes, 9 for each frame; that many are written from place on, all others keep their
@@ -169,6 +194,72 @@ uint64_t trace_line_read(const uint8_t *line, size_t line_len, uint8_t *kind, ui
 #define TRACE_STACK_LINE_WRITE 512
 uint64_t trace_line_write(uint8_t kind, uint16_t frame, uint8_t thread, uint16_t begin,
                           uint16_t commit, uint64_t locks, uint8_t *line, size_t line_len);
+
+/*
+ * Words. The five functions below write what they say into out, from its start on and as far as
+ * there is room; later bytes keep their contents. The reply is the number of bytes of the whole,
+ * so out has it whole where the reply is at most out_len; it is never above TRACE_SAY_LENGTH. No
+ * byte 0 ends it. None refuses.
+ */
+#define TRACE_SAY_LENGTH 4096
+
+/*
+ * The answer that a verdict line tells, in words: reducible, the violation with its block, its
+ * commit and what to mend, or the refusal. words are those of the recording that the line is of;
+ * they name what its frames do. With none it is what trace_say_line says, and with those of another
+ * recording what stands there at the line's places is named. A line that is no verdict line is said
+ * to be none, by refusal 18. Each line of the text ends with LF.
+ * Stack: at most TRACE_STACK_SAY_VERDICT bytes.
+ */
+#define TRACE_STACK_SAY_VERDICT 9216
+size_t trace_say_verdict(const uint8_t *line, size_t line_len, const uint32_t *words,
+                         size_t words_len, uint8_t *out, size_t out_len);
+
+/* What a refusal speaks of: trace_say_refusal names it so. */
+enum trace_source {
+    TRACE_SOURCE_RECORDING = 0, /* the recording */
+    TRACE_SOURCE_GUARD_LIST = 1, /* the guard list */
+    TRACE_SOURCE_LEFT = 2, /* the left recording */
+    TRACE_SOURCE_RIGHT = 3, /* the right recording */
+    TRACE_SOURCE_TEXT = 4 /* the text; so does every other number */
+};
+
+/*
+ * A refusal in words: reply is that of the call that refused (TRACE_RIGHT in it is not looked at),
+ * source one of enum trace_source. text is what was refused as text, or empty: where refusal 1 is
+ * of a line that begins in it, its first wrong byte is named. words are the recording's, or none:
+ * where refusals 7 to 10 and 20 are of one of them, what that frame does is named.
+ * A reply that is no refusal has no words: 0 bytes. A number that this library does not give is
+ * said to be one. The text ends with LF.
+ * Stack: at most TRACE_STACK_SAY_REFUSAL bytes.
+ */
+#define TRACE_STACK_SAY_REFUSAL 8192
+size_t trace_say_refusal(uint64_t reply, uint32_t source, const uint8_t *text, size_t text_len,
+                         const uint32_t *words, size_t words_len, uint8_t *out, size_t out_len);
+
+/*
+ * A kept verdict line in words, as far as the line alone tells it: trace_say_verdict without words.
+ * Stack: at most TRACE_STACK_SAY_LINE bytes.
+ */
+#define TRACE_STACK_SAY_LINE 9216
+size_t trace_say_line(const uint8_t *line, size_t line_len, uint8_t *out, size_t out_len);
+
+/*
+ * The name of a kind: of TRACE_KIND_GUARD_NOT_HELD it is "guard not held", and so of the others.
+ * That of the kind of a refusal is the refusal's name. A kind that no verdict line has, and one of
+ * a refusal that this library does not give, has none: 0 bytes. No LF ends it.
+ * Stack: at most TRACE_STACK_SAY_KIND bytes.
+ */
+#define TRACE_STACK_SAY_KIND 1024
+size_t trace_say_kind(uint8_t kind, uint8_t *out, size_t out_len);
+
+/*
+ * The name of a refusal by its number: of TRACE_REFUSAL_MALFORMED_LINE it is "malformed line", and
+ * so of the others. Any other number has none: 0 bytes. No LF ends it.
+ * Stack: at most TRACE_STACK_SAY_REFUSAL_NAME bytes.
+ */
+#define TRACE_STACK_SAY_REFUSAL_NAME 1024
+size_t trace_say_refusal_name(uint8_t number, uint8_t *out, size_t out_len);
 
 #ifdef __cplusplus
 }

@@ -1,4 +1,4 @@
-# A built copy: nothing is built here, and the Rattle toolchain is not needed.
+# A built copy: nothing is built here, and no toolchain is needed.
 .PHONY: help install uninstall
 help:
 	@echo "make install    the tool, the library and their pages below PREFIX=$(PREFIX) (LIBDIR=$(LIBDIR), DESTDIR=$(DESTDIR)); seconds"

@@ -18,7 +18,8 @@
     TRACE_VARIABLES != 1024 || TRACE_MAX_NESTING_DEPTH != 15 || TRACE_MAX_HOLDS != 15
 #error "a limit is wrong"
 #endif
-#if TRACE_LINE_LENGTH != 33 || TRACE_TEXT_LINE_LENGTH != 9 || TRACE_ABSENT != 65535
+#if TRACE_LINE_LENGTH != 33 || TRACE_TEXT_LINE_LENGTH != 9 || TRACE_SAY_LENGTH != 4096 || \
+    TRACE_ABSENT != 65535
 #error "a length or the absent place is wrong"
 #endif
 #if TRACE_RIGHT != 256
@@ -39,6 +40,7 @@ static const uint8_t kinds[] = {TRACE_KIND_OF_REFUSAL(TRACE_REFUSAL_LINE_TOO_SHO
 static const char text[] = "05010000\n01010000\n03010000\n04010000\n02010000\n06010000\n";
 static const char guards[] = "00000000\n";
 static const char reducible[] = "00000600FFFFFFFF0000000000000000\n";
+static const char reducible_said[] = "reducible: no frame goes wrong; frames: 6.\n";
 
 static int checks, failures;
 
@@ -72,11 +74,13 @@ static void check_enumerators(void)
     enum trace_operation operation = TRACE_OPERATION_WRITE;
     enum trace_kind kind = TRACE_KIND_CANDIDATE_SET_EMPTIED;
     enum trace_refusal refusal = TRACE_REFUSAL_MOVES_TOO_SHORT;
-    const uint32_t wide_operation = operation, wide_refusal = refusal;
+    enum trace_source source = TRACE_SOURCE_RIGHT;
+    const uint32_t wide_operation = operation, wide_refusal = refusal, wide_source = source;
     const uint8_t narrow_kind = TRACE_KIND_CANDIDATE_SET_EMPTIED;
     CHECK(operation == 4 && wide_operation == 4);
     CHECK(kind == 4 && narrow_kind == kind);
     CHECK(refusal == 21);
+    CHECK(source == 3 && wide_source == 3);
     CHECK(TRACE_FRAME(wide_operation, 31u, 1023u) == 0x041F03FFu);
     CHECK(TRACE_KIND_OF_REFUSAL(wide_refusal) == 0x95);
     CHECK(TRACE_REPLY(wide_refusal, 4096u) == 0x1500001000u);
@@ -115,6 +119,12 @@ static void check_enumerators(void)
     CHECK(TRACE_REFUSAL_TEXT_TOO_SHORT == 19);
     CHECK(TRACE_REFUSAL_TOO_MANY_HOLDS == 20);
     CHECK(TRACE_REFUSAL_MOVES_TOO_SHORT == 21);
+
+    CHECK(TRACE_SOURCE_RECORDING == 0);
+    CHECK(TRACE_SOURCE_GUARD_LIST == 1);
+    CHECK(TRACE_SOURCE_LEFT == 2);
+    CHECK(TRACE_SOURCE_RIGHT == 3);
+    CHECK(TRACE_SOURCE_TEXT == 4);
 }
 
 static void check_frames(void)
@@ -258,15 +268,18 @@ static void check_replies(void)
 static void check_stacks(void)
 {
     static const int stacks[] = {
-        TRACE_STACK_CHECK,           TRACE_STACK_READ,
-        TRACE_STACK_GUARDS,          TRACE_STACK_DECLARED,
-        TRACE_STACK_INFERRED,        TRACE_STACK_EQUAL,
-        TRACE_STACK_SERIAL_DECLARED, TRACE_STACK_SERIAL_INFERRED,
-        TRACE_STACK_MOVES_DECLARED,  TRACE_STACK_MOVES_INFERRED,
-        TRACE_STACK_WRITE,           TRACE_STACK_LINE_READ,
-        TRACE_STACK_LINE_WRITE};
+        TRACE_STACK_CHECK,            TRACE_STACK_READ,
+        TRACE_STACK_GUARDS,           TRACE_STACK_DECLARED,
+        TRACE_STACK_INFERRED,         TRACE_STACK_EQUAL,
+        TRACE_STACK_SERIAL_DECLARED,  TRACE_STACK_SERIAL_INFERRED,
+        TRACE_STACK_MOVES_DECLARED,   TRACE_STACK_MOVES_INFERRED,
+        TRACE_STACK_COMMITS_DECLARED, TRACE_STACK_COMMITS_INFERRED,
+        TRACE_STACK_WRITE,            TRACE_STACK_LINE_READ,
+        TRACE_STACK_LINE_WRITE,       TRACE_STACK_SAY_VERDICT,
+        TRACE_STACK_SAY_REFUSAL,      TRACE_STACK_SAY_LINE,
+        TRACE_STACK_SAY_KIND,         TRACE_STACK_SAY_REFUSAL_NAME};
     size_t n;
-    CHECK(sizeof stacks / sizeof stacks[0] == 13);
+    CHECK(sizeof stacks / sizeof stacks[0] == 20);
     for (n = 0; n < sizeof stacks / sizeof stacks[0]; n++)
         CHECK(stacks[n] > 0 && stacks[n] % 512 == 0);
 }
@@ -277,9 +290,10 @@ static void call_functions(void)
     uint8_t lent_text[sizeof text - 1], lent_guards[sizeof guards - 1];
     uint8_t line[TRACE_LINE_LENGTH], kind, thread;
     uint16_t frame, begin, commit;
-    uint32_t read[6], order[6];
+    uint32_t read[6], order[6], commits[6];
     int32_t moves[6];
     uint64_t sets[TRACE_VARIABLES], locks, reply;
+    uint8_t said[64];
     size_t n;
     memcpy(lent_text, text, sizeof lent_text);
     memcpy(lent_guards, guards, sizeof lent_guards);
@@ -324,6 +338,13 @@ static void call_functions(void)
     for (n = 0; n < six; n++)
         CHECK(moves[n] == 0);
 
+    memset(commits, 0, sizeof commits);
+    CHECK(trace_commits_declared(lent_guards, sizeof lent_guards, frames, six, commits, 6) == 6);
+    CHECK(commits[0] == 5 && commits[1] == 0);
+    memset(commits, 0, sizeof commits);
+    CHECK(trace_commits_inferred(frames, six, commits, 6) == 6);
+    CHECK(commits[0] == 5 && commits[1] == 0);
+
     memset(lent_text, 0, sizeof lent_text);
     CHECK(trace_write(frames, six, lent_text, sizeof lent_text, 0) == 54);
     CHECK(memcmp(lent_text, text, sizeof lent_text) == 0);
@@ -333,6 +354,23 @@ static void call_functions(void)
     memset(line, 0, sizeof line);
     CHECK(trace_line_write(kind, frame, thread, begin, commit, locks, line, sizeof line) == 33);
     CHECK(memcmp(line, reducible, sizeof line) == 0);
+
+    CHECK(trace_say_verdict(line, sizeof line, frames, six, said, sizeof said) ==
+          sizeof reducible_said - 1);
+    CHECK(memcmp(said, reducible_said, sizeof reducible_said - 1) == 0);
+    memset(said, 0, sizeof said);
+    CHECK(trace_say_line(line, sizeof line, said, sizeof said) == sizeof reducible_said - 1);
+    CHECK(memcmp(said, reducible_said, sizeof reducible_said - 1) == 0);
+    memset(said, 0, sizeof said);
+    reply = TRACE_REPLY(TRACE_REFUSAL_TOO_MANY_FRAMES, TRACE_MAX_FRAMES);
+    CHECK(trace_say_refusal(reply, TRACE_SOURCE_GUARD_LIST, lent_text, 0, frames, 0, said,
+                            sizeof said) > sizeof said);
+    CHECK(memcmp(said, "refused: number 2, the guard list has more than 4096 lines; cut ",
+                 sizeof said) == 0);
+    CHECK(trace_say_kind(TRACE_KIND_REDUCIBLE, said, sizeof said) == 9);
+    CHECK(memcmp(said, "reducible", 9) == 0);
+    CHECK(trace_say_refusal_name(TRACE_REFUSAL_LOCK_NOT_HELD, said, sizeof said) == 13);
+    CHECK(memcmp(said, "lock not held", 13) == 0);
 }
 
 int main(void)

@@ -1,6 +1,7 @@
 /*
  * Calls the library from C. Every buffer is allocated at its exact size, so that a memory
- * checker finds any access outside. Expected lines are those of docs/FORMAT.md.
+ * checker finds any access outside. Expected lines are those of docs/FORMAT.md, sentences those of
+ * docs/TOOL.md.
  */
 #include "trace_library.h"
 
@@ -291,6 +292,98 @@ static int line_writes_to(struct fields fields, size_t line_len, uint64_t reply,
     return good;
 }
 
+/*
+ * Where units commit; no list: guards are inferred. expected holds what is written at each frame's
+ * place, 0 where the entry stays untouched; no expected: all of them stay so.
+ */
+static int commits_to(const char *list, const uint32_t *words, size_t words_len,
+                      size_t commits_len, uint64_t reply, const uint32_t *expected)
+{
+    size_t list_len = list == NULL ? 0 : strlen(list);
+    uint8_t *lent_list = copy_of(list, list_len);
+    uint32_t *lent_words = copy_of(words, words_len * sizeof *words);
+    uint32_t *commits = untouched(commits_len * sizeof *commits);
+    uint64_t given = list == NULL
+                         ? trace_commits_inferred(lent_words, words_len, commits, commits_len)
+                         : trace_commits_declared(lent_list, list_len, lent_words, words_len,
+                                                  commits, commits_len);
+    int good = given == reply && memcmp(lent_words, words, words_len * sizeof *words) == 0;
+    for (size_t place = 0; place < commits_len; place++) {
+        uint32_t commit = expected != NULL && place < words_len ? expected[place] : 0;
+        good = good && (commit == 0 ? is_untouched(&commits[place], sizeof *commits)
+                                    : commits[place] == commit);
+    }
+    free(commits);
+    free(lent_words);
+    free(lent_list);
+    return good;
+}
+
+/* What is to be said: a verdict line, with its words or without, a refusal, or a name. */
+struct saying {
+    enum { VERDICT, LINE_ALONE, REFUSAL, KIND_NAME, REFUSAL_NAME } what;
+    const char *line, *text;
+    const uint32_t *words;
+    size_t words_len;
+    uint64_t reply;
+    uint32_t source;
+    uint8_t number;
+};
+
+static size_t say(const struct saying *saying, uint8_t *out, size_t out_len)
+{
+    size_t line_len = saying->line == NULL ? 0 : strlen(saying->line);
+    size_t text_len = saying->text == NULL ? 0 : strlen(saying->text);
+    uint8_t *line = copy_of(saying->line, line_len), *text = copy_of(saying->text, text_len);
+    size_t words_size = saying->words_len * sizeof *saying->words, length = 0;
+    uint32_t *words = copy_of(saying->words, words_size);
+    switch (saying->what) {
+    case VERDICT:
+        length = trace_say_verdict(line, line_len, words, saying->words_len, out, out_len);
+        break;
+    case LINE_ALONE:
+        length = trace_say_line(line, line_len, out, out_len);
+        break;
+    case REFUSAL:
+        length = trace_say_refusal(saying->reply, saying->source, text, text_len, words,
+                                   saying->words_len, out, out_len);
+        break;
+    case KIND_NAME:
+        length = trace_say_kind(saying->number, out, out_len);
+        break;
+    case REFUSAL_NAME:
+        length = trace_say_refusal_name(saying->number, out, out_len);
+        break;
+    }
+    if (line_len > 0)
+        CHECK(memcmp(line, saying->line, line_len) == 0);
+    if (text_len > 0)
+        CHECK(memcmp(text, saying->text, text_len) == 0);
+    if (words_size > 0)
+        CHECK(memcmp(words, saying->words, words_size) == 0);
+    free(words);
+    free(text);
+    free(line);
+    return length;
+}
+
+/* With room to spare, with that of the whole, with one byte less, half, one byte and none. */
+static int says(struct saying saying, const char *expected)
+{
+    size_t whole = strlen(expected);
+    const size_t rooms[] = {whole + 7, whole, whole - 1, whole / 2, 1, 0};
+    int good = 1;
+    for (size_t n = 0; n < COUNT(rooms); n++) {
+        size_t room = whole == 0 && n == 2 ? 3 : rooms[n], written = room < whole ? room : whole;
+        uint8_t *out = untouched(room);
+        good = good && say(&saying, out, room) == whole;
+        good = good && (written == 0 || memcmp(out, expected, written) == 0) &&
+               is_untouched(out + written, room - written);
+        free(out);
+    }
+    return good;
+}
+
 static const char reducible_0[] = "00000000FFFFFFFF0000000000000000";
 static const char text_a[] = "05010000\n01010000\n03010000\n02010000\n"
                              "01010000\n03010001\n02010000\n06010000\n";
@@ -453,6 +546,264 @@ static void test_again(void)
                       "00000500FFFFFFFF0000000000000000"));
 }
 
+/* Where units commit: blocks, single frames, open blocks, violations; room for some of them. */
+static void test_commits(void)
+{
+    const uint32_t commits_c[] = {5, 9, 0, 0, 0, 0, 0, 0, 0, 0};
+    const uint32_t unguarded_c[] = {4, 7, 0, 0, 0, 0, 0, 0, 0, 0};
+    const uint32_t commits_a[] = {4, 0, 0, 0, 0, 0, 0, 0};
+    const uint32_t commits_again[] = {8, 0, 0, 0, 0, 7, 0, 0, 0};
+    const uint32_t each[] = {1, 2, 3, 4, 5, 6, 7, 8};
+    const uint32_t open[] = {0x05000000, 0x05000000, 0x01000000, 0x02000000, 0x06000000};
+    const uint32_t commits_open[] = {4, 0, 0, 0, 0};
+    CHECK(commits_to(NULL, words_c, 10, 10, 10, commits_c));
+    CHECK(commits_to(NULL, words_c, 10, 13, 10, commits_c));
+    CHECK(commits_to(NULL, words_c, 10, 1, 10, commits_c));
+    CHECK(commits_to(NULL, words_c, 10, 0, 10, NULL));
+    CHECK(commits_to("00000000\n", words_c, 10, 10, 10, commits_c));
+    CHECK(commits_to("00000000\n", words_c, 10, 1, 10, commits_c));
+    CHECK(commits_to("", words_c, 10, 10, 10, unguarded_c));
+    CHECK(commits_to(NULL, words_a, COUNT(words_a), 8, 8, commits_a));
+    CHECK(commits_to("00000000\n00010000\n", words_a, COUNT(words_a), 9, 8, commits_a));
+    CHECK(commits_to(NULL, words_again, 9, 9, 9, commits_again));
+    CHECK(commits_to("00050000\n", words_again, 9, 9, 9, commits_again));
+    CHECK(commits_to(NULL, words_shared, 8, 8, 8, each));
+    CHECK(commits_to("", words_shared, 8, 8, 8, each));
+    CHECK(commits_to(NULL, begin_alone, 1, 1, 1, NULL));
+    CHECK(commits_to("", begin_alone, 1, 1, 1, NULL));
+    CHECK(commits_to(NULL, open, 3, 3, 3, NULL));
+    CHECK(commits_to(NULL, open, 4, 4, 4, commits_open));
+    CHECK(commits_to("", open, 5, 5, 5, commits_open));
+    CHECK(commits_to(NULL, words_c, 0, 0, 0, NULL));
+    CHECK(commits_to("", words_c, 0, 2, 0, NULL));
+    CHECK(commits_to("00000000", words_c, 10, 10, TRACE_REPLY(TRACE_REFUSAL_MALFORMED_LINE, 0),
+                     NULL));
+    CHECK(commits_to("04000000\n", words_j, 2, 2, TRACE_REPLY(TRACE_REFUSAL_GUARD_OUT_OF_RANGE, 0),
+                     NULL));
+    CHECK(commits_to("00050002\n00050002\n", words_j, 2, 2,
+                     TRACE_REPLY(TRACE_REFUSAL_VARIABLE_ALREADY_NAMED, 1), NULL));
+    CHECK(commits_to("", words_j, 2, 2, TRACE_REPLY(TRACE_REFUSAL_LOCK_HELD_BY_OTHER, 1), NULL));
+    CHECK(commits_to(NULL, words_j, 2, 0, TRACE_REPLY(TRACE_REFUSAL_LOCK_HELD_BY_OTHER, 1), NULL));
+}
+
+/* Verdicts in words, as docs/TOOL.md has them: with the recording's words, and the line alone. */
+static void test_say_verdicts(void)
+{
+    const char *no_line = "refused: number 18, this is no verdict line: that has 32 digits "
+                          "0-9 A-F, the first two 00 to 04 or 81 to FF, and one LF; hand it on as "
+                          "it was written.\n";
+    const char *a_line = "03000401000000030000000000000001\n";
+    const char *a_alone =
+        "violation: kind 3, acquire after commit, by thread 1.\n"
+        "  The block begins at line 1 [0].\n"
+        "  It commits at line 4 [3].\n"
+        "  It goes wrong at line 5 [4].\n"
+        "  A block takes no new lock after its commit, here lock 0: between these lines another "
+        "thread may change what the block has read or written.\n"
+        "  To mend it, take the lock before the commit and hold each lock until the block ends, or "
+        "end the block before this line.\n";
+    CHECK(says((struct saying){VERDICT, .line = a_line, .words = words_a, .words_len = 8},
+               "violation: kind 3, acquire after commit, by thread 1.\n"
+               "  The block begins at line 1 [0].\n"
+               "  It commits at line 4 [3]: release of lock 0.\n"
+               "  It goes wrong at line 5 [4]: acquire of lock 0.\n"
+               "  A block takes no new lock after its commit: between these lines another thread "
+               "may change what the block has read or written.\n"
+               "  To mend it, take the lock before the commit and hold each lock until the block "
+               "ends, or end the block before this line.\n"));
+    CHECK(says((struct saying){VERDICT, .line = a_line}, a_alone));
+    CHECK(says((struct saying){LINE_ALONE, .line = a_line}, a_alone));
+    CHECK(says((struct saying){VERDICT, .line = "01000000FFFFFFFF0000000000000004\n",
+                               .words = access_5, .words_len = 1},
+               "violation: kind 1, guard not held, by thread 0.\n"
+               "  The thread is in no block.\n"
+               "  It goes wrong at line 1 [0]: read of variable 5.\n"
+               "  The guard of variable 5 is lock 2, and thread 0 does not hold it: another thread "
+               "may access the variable at the same time.\n"
+               "  To mend it, hold lock 2 at this line; in a block, take it before the commit.\n"));
+    CHECK(says((struct saying){VERDICT, .line = "02000200000000010000000000000000\n",
+                               .words = words_e, .words_len = 3},
+               "violation: kind 2, unprotected access after commit, by thread 0.\n"
+               "  The block begins at line 1 [0].\n"
+               "  It commits at line 2 [1]: read of variable 5.\n"
+               "  It goes wrong at line 3 [2]: read of variable 5.\n"
+               "  Variable 5 has no guard: another thread may change it, or what the block "
+               "accessed before, between these lines.\n"
+               "  To mend it, end the block before this line, or name a guard of the variable and "
+               "hold it at each access.\n"));
+    CHECK(says((struct saying){LINE_ALONE, .line = "0400050300020003800000000000000C\n"},
+               "violation: kind 4, candidate set emptied, by thread 3.\n"
+               "  The block begins at line 3 [2].\n"
+               "  It commits at line 4 [3].\n"
+               "  It goes wrong at line 6 [5].\n"
+               "  Locks left that may guard the variable: 2, 3, 63. Thread 3 holds none of them, "
+               "so no one lock guards every access of the variable.\n"
+               "  To mend it, hold one lock at every access of the variable.\n"));
+    CHECK(says((struct saying){VERDICT, .line = "00000A00FFFFFFFF0000000000000000\n",
+                               .words = words_c, .words_len = 10},
+               "reducible: no frame goes wrong; frames: 10.\n"));
+    CHECK(says((struct saying){LINE_ALONE, .line = "00000000FFFFFFFF0000000000000000\n"},
+               "reducible: there is nothing in the recording; frames: 0.\n"));
+    CHECK(says((struct saying){VERDICT, .line = "87000100FFFFFFFF0000000000000000\n",
+                               .words = words_j, .words_len = 2},
+               "refused: number 7, line 2 [1] of the recording, acquire of lock 3 by thread 1, "
+               "takes a lock that another thread holds; it has to be released before this "
+               "line.\n"));
+    CHECK(says((struct saying){LINE_ALONE, .line = "87000100FFFFFFFF0000000000000000\n"},
+               "refused: number 7, line 2 [1] of the recording takes a lock that another thread "
+               "holds; it has to be released before this line.\n"));
+    CHECK(says((struct saying){LINE_ALONE, .line = "8B000100FFFFFFFF0000000000000000\n"},
+               "refused: number 11, line 2 [1] of the guard list names a variable above 03FF or a "
+               "lock above 003F; mend the number.\n"));
+    CHECK(says((struct saying){LINE_ALONE, .line = "FF000100FFFFFFFF0000000000000000\n"},
+               "refused: number 127, which this check does not give; its place is 1.\n"));
+    CHECK(says((struct saying){LINE_ALONE, .line = "05000401000000030000000000000001\n"}, no_line));
+    CHECK(says((struct saying){LINE_ALONE, .line = line_a}, no_line));
+    CHECK(says((struct saying){LINE_ALONE, .line = NULL}, no_line));
+    CHECK(says((struct saying){VERDICT, .line = line_a, .words = words_a, .words_len = 8},
+               no_line));
+}
+
+/* Refusals in words. SOURCE is the recording, of 11 and 12 the guard list; the place is 4. */
+static void test_say_refusals(void)
+{
+    static const char *said[] = {
+        "",
+        "line 5 [4] of the recording is not eight digits 0-9 A-F and one LF; write it so, without "
+        "blanks, lower case or CR, and end the last line.",
+        "the recording has more than 4 lines; cut it down to 4.",
+        "the word buffer has fewer than 4 words; lend one for each line.",
+        "line 5 [4] of the recording has an operation other than 01 to 06; mend its digits 1 and "
+        "2.",
+        "line 5 [4] of the recording has a thread above 1F; mend its digits 3 and 4.",
+        "line 5 [4] of the recording has an object out of range; locks go up to 003F, variables up "
+        "to 03FF, and a begin or an end has 0000.",
+        "line 5 [4] of the recording takes a lock that another thread holds; it has to be released "
+        "before this line.",
+        "line 5 [4] of the recording lets go a lock that its thread does not hold; acquire it "
+        "first or drop the line.",
+        "line 5 [4] of the recording is a begin inside 15 open blocks of its thread; nest at most "
+        "15.",
+        "line 5 [4] of the recording is an end where its thread has no open block; add its begin "
+        "or drop the line.",
+        "line 5 [4] of the guard list names a variable above 03FF or a lock above 003F; mend the "
+        "number.",
+        "line 5 [4] of the guard list names a variable that an earlier line names; keep one of the "
+        "two.",
+        "the recording is not reducible, so there is no serial order; line 5 [4] goes wrong, and "
+        "explain says why.",
+        "the block that begins at line 5 [4] of the recording is open at the end; add its end.",
+        "the output has fewer than 4 words; lend one for each frame.",
+        "the table of candidate sets has fewer than 4 entries; lend 4.",
+        "the line buffer has fewer than 4 bytes; lend 4.",
+        "this is no verdict line: that has 32 digits 0-9 A-F, the first two 00 to 04 or 81 to FF, "
+        "and one LF; hand it on as it was written.",
+        "the text has fewer than 4 bytes from the given place on; lend them.",
+        "line 5 [4] of the recording takes a lock that its thread holds 15 times already; hold it "
+        "at most 15 times.",
+        "the list of displacements has fewer than 4 numbers; lend one for each frame.",
+        "which this check does not give; its place is 4.",
+    };
+    static const char *sources[] = {"the recording", "the guard list", "the left recording",
+                                    "the right recording", "the text", "the text"};
+    const char *faulty = "00050002\n0005 002\n";
+    char expected[512];
+    for (uint32_t number = 1; number < COUNT(said); number++) {
+        int of_list = number == TRACE_REFUSAL_GUARD_OUT_OF_RANGE ||
+                      number == TRACE_REFUSAL_VARIABLE_ALREADY_NAMED;
+        struct saying saying = {REFUSAL, .reply = TRACE_REPLY(number, 4u), .source = of_list};
+        snprintf(expected, sizeof expected, "refused: number %u, %s\n", (unsigned)number,
+                 said[number]);
+        CHECK(says(saying, expected));
+        saying.reply = TRACE_REPLY(TRACE_RIGHT + number, 4u);
+        CHECK(says(saying, expected));
+    }
+    for (uint32_t source = 0; source < COUNT(sources); source++) {
+        snprintf(expected, sizeof expected,
+                 "refused: number 5, line 4294967296 [4294967295] of %s has a thread above 1F; "
+                 "mend its digits 3 and 4.\n",
+                 sources[source]);
+        CHECK(says((struct saying){REFUSAL, .reply = TRACE_REPLY(5, 0xFFFFFFFFu),
+                                   .source = source == 5 ? UINT32_MAX : source},
+                   expected));
+    }
+    /* No refusal. */
+    CHECK(says((struct saying){REFUSAL, .reply = 0}, ""));
+    CHECK(says((struct saying){REFUSAL, .reply = 0xFFFFFFFFu, .text = faulty}, ""));
+    /* The first wrong byte, where the line begins in the text. */
+    CHECK(says((struct saying){REFUSAL, .reply = TRACE_REPLY(1, 1), .text = faulty,
+                               .source = TRACE_SOURCE_GUARD_LIST},
+               "refused: number 1, line 2 [1] of the guard list is not eight digits 0-9 A-F and "
+               "one LF: column 5 has byte 20, a blank or a tab; write none.\n"));
+    CHECK(says((struct saying){REFUSAL, .reply = TRACE_REPLY(1, 0), .text = "0500000"},
+               "refused: number 1, line 1 [0] of the recording is not eight digits 0-9 A-F and "
+               "one LF: column 8 is behind the end of the file, so there are too few digits and no "
+               "LF; write eight and an LF.\n"));
+    CHECK(says((struct saying){REFUSAL, .reply = TRACE_REPLY(1, 2), .text = faulty},
+               "refused: number 1, line 3 [2] of the recording is not eight digits 0-9 A-F and "
+               "one LF; write it so, without blanks, lower case or CR, and end the last line.\n"));
+    /* What the frame does, where it is one of the words. */
+    CHECK(says((struct saying){REFUSAL, .reply = TRACE_REPLY(TRACE_RIGHT + 7, 1), .words = words_j,
+                               .words_len = 2, .source = TRACE_SOURCE_RIGHT},
+               "refused: number 7, line 2 [1] of the right recording, acquire of lock 3 by thread "
+               "1, takes a lock that another thread holds; it has to be released before this "
+               "line.\n"));
+    CHECK(says((struct saying){REFUSAL, .reply = TRACE_REPLY(7, 1), .words = words_j,
+                               .words_len = 1, .source = TRACE_SOURCE_LEFT},
+               "refused: number 7, line 2 [1] of the left recording takes a lock that another "
+               "thread holds; it has to be released before this line.\n"));
+}
+
+/* Each name is that of the enumerator, in lower case and with blanks; no other number has one. */
+static void test_say_names(void)
+{
+#define KIND(name) [TRACE_KIND_##name] = #name
+#define REFUSED(name) [TRACE_REFUSAL_##name] = #name
+    static const char *kinds[] = {
+        KIND(REDUCIBLE),
+        KIND(GUARD_NOT_HELD),
+        KIND(UNPROTECTED_ACCESS_AFTER_COMMIT),
+        KIND(ACQUIRE_AFTER_COMMIT),
+        KIND(CANDIDATE_SET_EMPTIED),
+    };
+    static const char *refusals[] = {
+        REFUSED(MALFORMED_LINE),
+        REFUSED(TOO_MANY_FRAMES),
+        REFUSED(WORDS_TOO_SHORT),
+        REFUSED(OPERATION_OUT_OF_RANGE),
+        REFUSED(THREAD_OUT_OF_RANGE),
+        REFUSED(OBJECT_OUT_OF_RANGE),
+        REFUSED(LOCK_HELD_BY_OTHER),
+        REFUSED(LOCK_NOT_HELD),
+        REFUSED(NESTING_TOO_DEEP),
+        REFUSED(NO_OPEN_BLOCK),
+        REFUSED(GUARD_OUT_OF_RANGE),
+        REFUSED(VARIABLE_ALREADY_NAMED),
+        REFUSED(NOT_REDUCIBLE),
+        REFUSED(BLOCK_STILL_OPEN),
+        REFUSED(OUTPUT_TOO_SHORT),
+        REFUSED(SETS_TOO_SHORT),
+        REFUSED(LINE_TOO_SHORT),
+        REFUSED(NOT_A_VERDICT_LINE),
+        REFUSED(TEXT_TOO_SHORT),
+        REFUSED(TOO_MANY_HOLDS),
+        REFUSED(MOVES_TOO_SHORT),
+    };
+    for (unsigned number = 0; number <= 0xFF; number++) {
+        const char *of_refusal = number < COUNT(refusals) ? refusals[number] : NULL;
+        const char *of_kind = number < COUNT(kinds) ? kinds[number] : NULL;
+        char lower[2][64] = {"", ""};
+        if (TRACE_KIND_IS_REFUSAL(number) && TRACE_KIND_REFUSAL(number) < COUNT(refusals))
+            of_kind = refusals[TRACE_KIND_REFUSAL(number)];
+        for (size_t n = 0; of_kind != NULL && n < strlen(of_kind); n++)
+            lower[0][n] = of_kind[n] == '_' ? ' ' : (char)(of_kind[n] - 'A' + 'a');
+        for (size_t n = 0; of_refusal != NULL && n < strlen(of_refusal); n++)
+            lower[1][n] = of_refusal[n] == '_' ? ' ' : (char)(of_refusal[n] - 'A' + 'a');
+        CHECK(says((struct saying){KIND_NAME, .number = (uint8_t)number}, lower[0]));
+        CHECK(says((struct saying){REFUSAL_NAME, .number = (uint8_t)number}, lower[1]));
+    }
+}
+
 /* 15 takings of a lock, the 16th, 15 releases and one more. */
 static void test_most_holds(void)
 {
@@ -490,6 +841,8 @@ static void test_most_holds(void)
                     NULL));
     CHECK(moves_to("", words, MOST + 1, MOST + 1, TRACE_REPLY(TRACE_REFUSAL_TOO_MANY_HOLDS, MOST),
                    NULL));
+    CHECK(commits_to("", words, MOST + 1, MOST + 1,
+                     TRACE_REPLY(TRACE_REFUSAL_TOO_MANY_HOLDS, MOST), NULL));
     CHECK(writes_to(words, MOST, LINE * MOST, 0, LINE * MOST, text));
     CHECK(writes_to(words, MOST + 1, LINE * (MOST + 1), 0,
                     TRACE_REPLY(TRACE_REFUSAL_TOO_MANY_HOLDS, MOST), NULL));
@@ -517,6 +870,7 @@ static void test_longest(void)
 {
     enum { MOST = TRACE_MAX_FRAMES, LINE = TRACE_TEXT_LINE_LENGTH };
     uint32_t *words = allocate((MOST + 1) * sizeof *words);
+    uint32_t *commits = allocate(MOST * sizeof *commits);
     char *text = allocate(LINE * (MOST + 1) + 1);
     for (size_t place = 0; place <= MOST; place++) {
         words[place] = place % 2 == 0 ? 0x05000000 : 0x06000000;
@@ -555,6 +909,14 @@ static void test_longest(void)
                    NULL));
     CHECK(moves_to(NULL, words, MOST + 1, MOST + 1,
                    TRACE_REPLY(TRACE_REFUSAL_TOO_MANY_FRAMES, MOST), NULL));
+    for (uint32_t place = 0; place < MOST; place++)
+        commits[place] = place % 2 == 0 ? place + 2 : 0;
+    CHECK(commits_to(NULL, words, MOST, MOST, MOST, commits));
+    CHECK(commits_to("", words, MOST, MOST - 1, MOST, commits));
+    CHECK(commits_to(NULL, words, MOST + 1, MOST + 1,
+                     TRACE_REPLY(TRACE_REFUSAL_TOO_MANY_FRAMES, MOST), NULL));
+    CHECK(commits_to("", words, MOST + 1, 0, TRACE_REPLY(TRACE_REFUSAL_TOO_MANY_FRAMES, MOST),
+                     NULL));
     text[LINE * MOST - 1] = '\n';
     CHECK(writes_to(words, MOST, LINE * MOST, 0, LINE * MOST, text));
     CHECK(writes_to(words, MOST, LINE * MOST + 5, 3, LINE * MOST, text));
@@ -565,6 +927,7 @@ static void test_longest(void)
     CHECK(writes_to(words, MOST + 1, LINE * (MOST + 1), 0,
                     TRACE_REPLY(TRACE_REFUSAL_TOO_MANY_FRAMES, MOST), NULL));
     free(text);
+    free(commits);
     free(words);
 }
 
@@ -723,6 +1086,12 @@ int main(void)
     /* trace_write, trace_line_read and trace_line_write */
     test_write();
     test_lines();
+
+    /* trace_commits_declared and trace_commits_inferred, and what is said */
+    test_commits();
+    test_say_verdicts();
+    test_say_refusals();
+    test_say_names();
 
     test_again();
     test_most_holds();

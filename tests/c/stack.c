@@ -2,8 +2,8 @@
  * The stack that each call uses. Each call runs on a stack of its own, filled with a pattern
  * before; its figure is how far below its caller's frame the pattern is gone. No figure is above
  * what the headers state for its function, and the largest is at most SPARE bytes below that. Of
- * the serial order and the displacements no figure is above LIMIT, and none grows with the
- * recording. A memory checker changes stacks: this program runs without one.
+ * the serial order, the displacements and the commits no figure is above LIMIT, and none grows with
+ * the recording. A memory checker changes stacks: this program runs without one.
  */
 #define _XOPEN_SOURCE 600
 
@@ -43,9 +43,16 @@ struct request {
         SERIAL_INFERRED,
         MOVES_DECLARED,
         MOVES_INFERRED,
+        COMMITS_DECLARED,
+        COMMITS_INFERRED,
         WRITE,
         LINE_READ,
         LINE_WRITE,
+        SAY_VERDICT,
+        SAY_REFUSAL,
+        SAY_LINE,
+        SAY_KIND,
+        SAY_REFUSAL_NAME,
         CALLS
     } call;
     size_t lines;
@@ -96,6 +103,10 @@ static uint64_t sets[TRACE_VARIABLES];
 static uint8_t line[TRACE_LINE_LENGTH];
 static size_t list_len, text_len, words_len, right_len, out_len, sets_len, line_len;
 static uint8_t kind;
+static uint8_t said[4096];
+static size_t said_len;
+static uint64_t refused;
+static uint32_t source;
 /* The places of the recording in serial order. */
 static size_t order[LONGEST];
 static uint64_t reply;
@@ -129,6 +140,8 @@ CALLER(serial_inferred, trace_serial_inferred(words, words_len, out, out_len))
 CALLER(moves_declared,
        trace_moves_declared(list, list_len, words, words_len, (int32_t *)out, out_len))
 CALLER(moves_inferred, trace_moves_inferred(words, words_len, (int32_t *)out, out_len))
+CALLER(commits_declared, trace_commits_declared(list, list_len, words, words_len, out, out_len))
+CALLER(commits_inferred, trace_commits_inferred(words, words_len, out, out_len))
 CALLER(write_text, trace_write(words, words_len, text, text_len, 0))
 
 static void line_read(void)
@@ -141,6 +154,12 @@ static void line_read(void)
 }
 
 CALLER(line_write, trace_line_write(kind, 4, 1, 0, TRACE_ABSENT, 1, line, line_len))
+CALLER(say_verdict, trace_say_verdict(line, line_len, words, words_len, said, said_len))
+CALLER(say_refusal,
+       trace_say_refusal(refused, source, text, text_len, words, words_len, said, said_len))
+CALLER(say_line, trace_say_line(line, line_len, said, said_len))
+CALLER(say_kind, trace_say_kind(kind, said, said_len))
+CALLER(say_refusal_name, trace_say_refusal_name(kind, said, said_len))
 
 /* Each function, what the headers state of its stack, and the largest figure of its calls. */
 static struct {
@@ -159,9 +178,19 @@ static struct {
     [SERIAL_INFERRED] = {"trace_serial_inferred", TRACE_STACK_SERIAL_INFERRED, serial_inferred, 0},
     [MOVES_DECLARED] = {"trace_moves_declared", TRACE_STACK_MOVES_DECLARED, moves_declared, 0},
     [MOVES_INFERRED] = {"trace_moves_inferred", TRACE_STACK_MOVES_INFERRED, moves_inferred, 0},
+    [COMMITS_DECLARED] = {"trace_commits_declared", TRACE_STACK_COMMITS_DECLARED,
+                          commits_declared, 0},
+    [COMMITS_INFERRED] = {"trace_commits_inferred", TRACE_STACK_COMMITS_INFERRED,
+                          commits_inferred, 0},
     [WRITE] = {"trace_write", TRACE_STACK_WRITE, write_text, 0},
     [LINE_READ] = {"trace_line_read", TRACE_STACK_LINE_READ, line_read, 0},
     [LINE_WRITE] = {"trace_line_write", TRACE_STACK_LINE_WRITE, line_write, 0},
+    [SAY_VERDICT] = {"trace_say_verdict", TRACE_STACK_SAY_VERDICT, say_verdict, 0},
+    [SAY_REFUSAL] = {"trace_say_refusal", TRACE_STACK_SAY_REFUSAL, say_refusal, 0},
+    [SAY_LINE] = {"trace_say_line", TRACE_STACK_SAY_LINE, say_line, 0},
+    [SAY_KIND] = {"trace_say_kind", TRACE_STACK_SAY_KIND, say_kind, 0},
+    [SAY_REFUSAL_NAME] = {"trace_say_refusal_name", TRACE_STACK_SAY_REFUSAL_NAME,
+                          say_refusal_name, 0},
 };
 
 /* How many calls were measured. */
@@ -371,15 +400,36 @@ static int test(const struct request *request)
 }
 
 /* Measures a call of what is lent now. A wrong answer ends the program. */
-static void answers(enum call chosen, uint64_t answer)
+static size_t answers(enum call chosen, uint64_t answer)
 {
     call = chosen;
-    figure();
+    size_t bytes = figure();
     if (reply != answer) {
         printf("c: stack of %s: answered %016" PRIx64 ", not %016" PRIx64 "\n",
                functions[call].name, reply, answer);
         exit(1);
     }
+    return bytes;
+}
+
+/*
+ * Measures a call that writes commits, with room and without, if its list and its recording are
+ * sound. The first is on no frames; those after it use no byte more.
+ */
+static void answers_commits(enum call chosen, size_t frames)
+{
+    static size_t none[CALLS];
+    for (out_len = 0; out_len <= LONGEST; out_len += LONGEST) {
+        size_t bytes = answers(chosen, frames);
+        if (frames == 0 && bytes > none[chosen])
+            none[chosen] = bytes;
+        if (bytes > none[chosen] || bytes > LIMIT) {
+            printf("c: stack of %s: %zu bytes at %zu frames, %zu at none\n", functions[call].name,
+                   bytes, frames, none[chosen]);
+            exit(1);
+        }
+    }
+    out_len = LONGEST;
 }
 
 /* Measures a call that writes a verdict line, and once more with too short a line buffer. */
@@ -448,6 +498,18 @@ static void test_others(const struct input *input, size_t frames)
     answers_line(INFERRED, bad ? bad : wrong ? violation(input, 0, 0) : TRACE_KIND_REDUCIBLE);
     sets_len = TRACE_VARIABLES - 1;
     answers_line(INFERRED, bad ? bad : TRACE_KIND_OF_REFUSAL(TRACE_REFUSAL_SETS_TOO_SHORT));
+
+    /* Commits: without guards, with a guard for each variable, with a list that is refused. */
+    out_len = LONGEST;
+    answers(COMMITS_DECLARED, GUARDS_REFUSED);
+    for (size_t lines = 0; lines <= TRACE_VARIABLES; lines += TRACE_VARIABLES) {
+        list_len = TRACE_TEXT_LINE_LENGTH * lines;
+        for (enum call each = COMMITS_DECLARED; each <= COMMITS_INFERRED; each++)
+            if (bad)
+                answers(each, answer);
+            else
+                answers_commits(each, frames);
+    }
 
     /* The comparison: with the serial order, with itself, with one frame less, with none. */
     answer = bad ? answer : 1;
@@ -546,6 +608,106 @@ static void test_lines(void)
     }
 }
 
+/* Measures a call that says something, or nothing where it has no words, with room and without. */
+static void says(enum call chosen, int something)
+{
+    call = chosen;
+    said_len = sizeof said;
+    figure();
+    uint64_t length = reply;
+    said_len = 0;
+    figure();
+    if (length > sizeof said || (length > 0) != something || reply != length) {
+        printf("c: stack of %s: said %" PRIu64 " bytes, and %" PRIu64 " where it has no room\n",
+               functions[call].name, length, reply);
+        exit(1);
+    }
+}
+
+/* A verdict line in words: with the recording, which has a frame of each operation, and without. */
+static void say_fields(unsigned each, unsigned frame, unsigned begin, unsigned commit,
+                       uint64_t locks)
+{
+    char digits[2 * TRACE_LINE_LENGTH];
+    snprintf(digits, sizeof digits, "%02X%04X1F%04X%04X%016" PRIX64 "\n", each, frame, begin,
+             commit, locks);
+    memcpy(line, digits, sizeof line);
+    line_len = sizeof line;
+    words_len = TRACE_OPERATION_END;
+    says(SAY_VERDICT, 1);
+    words_len = 0;
+    says(SAY_VERDICT, 1);
+    says(SAY_LINE, 1);
+}
+
+/* Verdict lines of each kind in words, and lines that are none. */
+static void test_say_lines(void)
+{
+    static const unsigned places[] = {0, 5, 6, 0xFFFE, TRACE_ABSENT};
+    static const uint64_t sets_of_locks[] = {0, 1, 0x8000000000000000u, 0xFFFFFFFFFFFFFFFEu,
+                                             UINT64_MAX};
+    for (unsigned n = 0; n < TRACE_OPERATION_END; n++)
+        words[n] = TRACE_FRAME(n + 1, 31, n < 2 ? 63 : n < 4 ? 1023 : 0);
+    for (unsigned each = 0; each <= 0xFF; each++)
+        say_fields(each, 0xFFFF, TRACE_ABSENT, TRACE_ABSENT, 0);
+    for (unsigned each = 0; each <= TRACE_KIND_CANDIDATE_SET_EMPTIED; each++) {
+        for (unsigned frame = 0; frame <= TRACE_OPERATION_END; frame++)
+            say_fields(each, frame, 4, frame, UINT64_MAX);
+        for (size_t b = 0; b < COUNT(places); b++)
+            for (size_t c = 0; c < COUNT(places); c++)
+                say_fields(each, 3, places[b], places[c], 2);
+        for (size_t l = 0; l < COUNT(sets_of_locks); l++)
+            say_fields(each, 3, 0, 1, sets_of_locks[l]);
+    }
+    for (line_len = 0; line_len < TRACE_LINE_LENGTH; line_len++) {
+        says(SAY_VERDICT, 1);
+        says(SAY_LINE, 1);
+    }
+}
+
+/* Refusals in words: each of each source, with the recording and without, and faulty lines. */
+static void test_say_refusals(void)
+{
+    static const char faults[] = "\n\r \t0aAg\xFF";
+    text_len = 0;
+    for (unsigned number = 0; number <= 0xFF; number++)
+        for (source = TRACE_SOURCE_RECORDING; source <= TRACE_SOURCE_TEXT + 1; source++) {
+            refused = TRACE_REPLY((uint64_t)number, UINT32_MAX);
+            words_len = 0;
+            says(SAY_REFUSAL, number != 0);
+            refused = TRACE_REPLY((uint64_t)number, (source + 1) % TRACE_OPERATION_END);
+            words_len = TRACE_OPERATION_END;
+            says(SAY_REFUSAL, number != 0);
+        }
+    source = TRACE_SOURCE_RIGHT;
+    for (size_t column = 0; column < TRACE_TEXT_LINE_LENGTH; column++)
+        for (size_t fault = 0; fault <= strlen(faults); fault++) {
+            const size_t first = TRACE_TEXT_LINE_LENGTH * (LONGEST - 1);
+            memset(text, '0', sizeof text);
+            refused = TRACE_REPLY((uint64_t)TRACE_REFUSAL_MALFORMED_LINE, LONGEST - 1);
+            text[first + column] = (uint8_t)faults[fault];
+            text_len = first + column + (fault < strlen(faults));
+            says(SAY_REFUSAL, 1);
+            refused = TRACE_REPLY((uint64_t)TRACE_REFUSAL_MALFORMED_LINE, 0);
+            text[column] = (uint8_t)faults[fault];
+            says(SAY_REFUSAL, 1);
+        }
+    memcpy(text, "\xEF\xBB\xBF", 3);
+    says(SAY_REFUSAL, 1);
+}
+
+/* The names of each kind and of each refusal. */
+static void test_say_names(void)
+{
+    for (unsigned each = 0; each <= 0xFF; each++) {
+        int is_refusal = each >= 1 && each <= TRACE_REFUSAL_MOVES_TOO_SHORT;
+        int of_refusal = each > 0x80 && each <= 0x80 + TRACE_REFUSAL_MOVES_TOO_SHORT;
+        kind = each;
+        says(SAY_KIND, each <= TRACE_KIND_CANDIDATE_SET_EMPTIED || of_refusal);
+        says(SAY_REFUSAL_NAME, is_refusal);
+    }
+}
+
 /* Whether the headers state of a function what was measured. */
 static int as_stated(enum call each)
 {
@@ -580,6 +742,9 @@ int main(void)
     test_too_long();
     test_guards();
     test_lines();
+    test_say_lines();
+    test_say_refusals();
+    test_say_names();
     for (enum call each = 0; each < CALLS; each++)
         good = as_stated(each) && good;
     printf("c: stack of %d calls\n", measured);

@@ -23,7 +23,7 @@ pub enum Kept {
 const LAST_KIND: u8 = 128 + 21;
 
 // The refusal of a number.
-fn refusal_by(n: u8) -> Refusal
+pub fn refusal_by(n: u8) -> Refusal
     requires { ⌜ 1 ≤ n ⌝ }
     requires { ⌜ n ≤ 21 ⌝ }
     ensures { λ r. ⌜ r ≡ refusalBy n ⌝ }

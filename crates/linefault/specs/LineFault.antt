@@ -1,17 +1,16 @@
 -- What is wrong with a line that is refused by 1, in words: "the first byte that is wrong, its column" (docs/TOOL.md), and what to do.
 use Prim.Native.Nat.{ℕ, _+_, _*_}
 use Prim.Native.String.{String}
-use mathlib.Core.Bool.{Bool, true, false, cond}
+use mathlib.Core.Bool.{cond}
 use mathlib.Core.List.{List, [], _++_}
 use lib.ListN.{length, getD, drop}
-use lib.Dec.{eqb, leb}
+use lib.Dec.{eqb, leb, ltb}
 use Rattle.frame.specs.Refusal.{refusalNumber}
 use Rattle.frame.specs.declared.Refused.{Refused}
 use Rattle.digits.specs.Digits.{digits}
 use Rattle.fault.specs.Fault.{leading, faultOf}
 use Rattle.output.specs.Output.{bytes, decimal}
 use Rattle.phrase.specs.declared.Source.{Source}
-use Rattle.phrase.specs.declared.Source.the-variants as source
 use Rattle.sentence.specs.Sentence.{filled}
 use Rattle.facts.specs.Facts.{placeFacts}
 use Rattle.refusaltext.specs.RefusalText.{refusalText}
@@ -66,17 +65,10 @@ faultFrom s t p =
 abbrev pub lineFaultText : Source → List ℕ → ℕ → List ℕ
 lineFaultText s text p = faultFrom s (drop (9 * p) text) p
 
--- Why a text is refused before it is read whole: of such a text there are no words to speak of.
-abbrev pub unreadIn : Source → List ℕ → Refused → List ℕ
-unreadIn s text x = cond (eqb (refusalNumber (x .reason)) 1) (lineFaultText s text (x .place)) (refusalText s [] x)
-
--- The same of a guard list or of a recording, whichever is refused.
-abbrev pub isList : Source → Bool
-isList source.GuardList = true
-isList source.Recording = false
-isList source.Left = false
-isList source.Right = false
-isList source.Text = false
-
-abbrev pub unreadText : Source → List ℕ → List ℕ → Refused → List ℕ
-unreadText s list text x = cond (isList s) (unreadIn s list x) (unreadIn s text x)
+-- A refusal, with what is at hand of what is refused: refusal 1 of a line that begins in the text names its byte, and the words are those of the
+-- recording.
+abbrev pub refusedText : Source → List ℕ → List ℕ → Refused → List ℕ
+refusedText s text ws x =
+    cond (eqb (refusalNumber (x .reason)) 1)
+    (cond (ltb (9 * x .place) (length text)) (lineFaultText s text (x .place)) (refusalText s ws x))
+    (refusalText s ws x)

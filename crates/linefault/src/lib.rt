@@ -11,7 +11,7 @@ ghost use Prim.Native.Nat.{_*_, _≤_};
 ghost use lib.ListN.{length, drop};
 ghost use Rattle.digits.specs.Digits.{digits};
 ghost use Rattle.output.specs.Output.{bytes, behind, written};
-ghost use Rattle.linefault.specs.LineFault.{faultNumber, faultSentence, columnText, lineFaultText, unreadIn, isList, unreadText};
+ghost use Rattle.linefault.specs.LineFault.{faultNumber, faultSentence, columnText, lineFaultText, refusedText};
 
 // The line of a fault in the text of them all.
 fn fault_number(f: Fault) -> u8
@@ -112,40 +112,25 @@ fn say_line(out: &mut [u8], source: Source, text: &[u8], place: u32) -> usize
     put_fault(out, q, w)
 }
 
-// Why a text is refused before it is read whole.
-fn say_unread(out: &mut [u8], source: Source, text: &[u8], x: Refused) -> usize
-    ensures place { λ r. ⌜ r ≡ behind (length (now (out .entry))) 0 (unreadIn source (now (text .entry)) x) ⌝ }
-    ensures contents { λ r. ⌜ now (out .exit) ≡ written (now (out .entry)) 0 (unreadIn source (now (text .entry)) x) ⌝ }
+// A refusal in words, with what is at hand of what is refused: its text, and the words of the recording.
+pub fn explain_refused(
+    out: &mut [u8],
+    source: Source,
+    text: &[u8],
+    words: &[u32],
+    x: Refused,
+) -> usize
+    ensures place { λ r. ⌜ r ≡ behind (length (now (out .entry))) 0 (refusedText source (now (text .entry)) (now (words .entry)) x) ⌝ }
+    ensures contents { λ r. ⌜ now (out .exit) ≡ written (now (out .entry)) 0 (refusedText source (now (text .entry)) (now (words .entry)) x) ⌝ }
 {
     let reason = x.reason;
     let n = frame::refusal_number(reason);
+    let start = 9 * x.place as usize;
     if n == 1 {
-        return say_line(out, source, text, x.place);
+        if start < text.len() {
+            return say_line(out, source, text, x.place);
+        }
+        return refusaltext::explain_refusal(out, 0, source, words, x);
     }
-    let none = [0u32; 0];
-    refusaltext::explain_refusal(out, 0, source, &none, x)
-}
-
-fn is_list(source: Source) -> bool
-    ensures { λ r. ⌜ r ≡ isList source ⌝ }
-{
-    match source {
-        Source::GuardList => true,
-        Source::Recording => false,
-        Source::Left => false,
-        Source::Right => false,
-        Source::Text => false,
-    }
-}
-
-// The same of a guard list or of a recording, whichever is refused.
-pub fn explain_unread(out: &mut [u8], source: Source, list: &[u8], text: &[u8], x: Refused) -> usize
-    ensures place { λ r. ⌜ r ≡ behind (length (now (out .entry))) 0 (unreadText source (now (list .entry)) (now (text .entry)) x) ⌝ }
-    ensures contents { λ r. ⌜ now (out .exit) ≡ written (now (out .entry)) 0 (unreadText source (now (list .entry)) (now (text .entry)) x) ⌝ }
-{
-    let l = is_list(source);
-    if l {
-        return say_unread(out, source, list, x);
-    }
-    say_unread(out, source, text, x)
+    refusaltext::explain_refusal(out, 0, source, words, x)
 }

@@ -1,3 +1,2 @@
--- Laws of written text and of signed numbers, which crates above cite.
+-- Laws of written text, which crates above cite.
 pub mod Laws
-pub mod Signed

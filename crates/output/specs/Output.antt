@@ -1,14 +1,13 @@
--- Text written into a lent buffer, as far as there is room; numbers and sets of locks as text; the length of the tool's answers.
--- Quotes are from docs/FORMAT.md and docs/TOOL.md.
-use Prim.Native.Nat.{ℕ, zero, suc, _+_, _*_, _/_, _%_}
+-- Text written into a lent buffer, as far as there is room; numbers and sets of locks as text.
+-- Quotes are from docs/FORMAT.md.
+use Prim.Native.Nat.{ℕ, zero, suc, _+_, _/_, _%_}
 use Prim.Native.Char.{code}
 use Prim.Native.String.{String, [] as empty, _∷_ as _then_}
 use mathlib.Core.Bool.{cond}
 use mathlib.Core.List.{List, [], _∷_, _++_}
-use lib.IntN.{ℤ, pos, negsuc}
 use lib.ListN.{length, set}
 use lib.Dec.{ltb, eqb}
-use Rattle.frame.specs.Limits.{mostFrames, lockCount, allLocks}
+use Rattle.frame.specs.Limits.{lockCount, allLocks}
 
 -- The bytes of a text of characters below 128.
 unfoldable pub bytes : String → List ℕ
@@ -38,11 +37,6 @@ decimalDigits (suc k) n = cond (eqb n 0) [] (decimalDigits k (n / 10) ++ ((n % 1
 unfoldable pub decimal : ℕ → List ℕ
 decimal n = cond (eqb n 0) (48 ∷ []) (decimalDigits 20 n)
 
--- A number "in decimal, with + or - before it unless it is 0".
-abbrev pub signed : ℤ → List ℕ
-signed (pos n) = cond (eqb n 0) (decimal 0) (code "+" ∷ decimal n)
-signed (negsuc n) = code "-" ∷ decimal (suc n)
-
 -- What stands for lock n, which is bit 0 of s: its number where it is in the set, and a comma where others follow.
 unfoldable pub lockText : ℕ → ℕ → List ℕ
 lockText n s = cond (eqb (s % 2) 0) [] (decimal n ++ cond (eqb (s / 2) 0) [] (bytes ", "))
@@ -55,7 +49,3 @@ listed (suc k) n s = lockText n s ++ listed k (suc n) (s / 2)
 -- A set of locks: "none", "all 64", or the numbers. "Lock n is bit n of a 64-bit set."
 unfoldable pub locksText : ℕ → List ℕ
 locksText s = cond (eqb s 0) (bytes "none") (cond (eqb s allLocks) (bytes "all 64") (listed lockCount 0 s))
-
--- The most bytes of an answer: of the command moves, for each frame a sign, four digits, a blank, eight digits and an LF.
-abbrev pub mostAnswer : ℕ
-mostAnswer = 15 * mostFrames

@@ -3,10 +3,9 @@ use frame::ALL_LOCKS;
 use frame::LOCKS;
 ghost use mathlib.Core.Path.{_≡_};
 ghost use mathlib.Core.List.{[], _∷_};
-ghost use lib.IntN.{natAbs};
 ghost use lib.ListN.{length};
 ghost use Rattle.frame.specs.Limits.{lockCount};
-ghost use Rattle.output.specs.Output.{behind, written, decimal, signed, lockText, listed, locksText};
+ghost use Rattle.output.specs.Output.{behind, written, decimal, lockText, listed, locksText};
 
 // The most digits of a 64-bit number.
 const DIGITS: usize = 20;
@@ -58,34 +57,6 @@ pub fn put_decimal(out: &mut [u8], at: usize, n: u64) -> usize
         v = v / 10;
     }
     put_text(out, at, &digits[k..])
-}
-
-// The absolute value of a number.
-pub fn absolute(n: i32) -> u64
-    ensures { λ r. ⌜ r ≡ natAbs n ⌝ }
-{
-    let v = n as i64;
-    if v < 0 {
-        return (-v) as u64;
-    }
-    v as u64
-}
-
-// A number with its sign.
-pub fn put_signed(out: &mut [u8], at: usize, n: i32) -> usize
-    ensures place { λ r. ⌜ r ≡ behind (length (now (out .entry))) at (signed n) ⌝ }
-    ensures contents { λ r. ⌜ now (out .exit) ≡ written (now (out .entry)) at (signed n) ⌝ }
-{
-    let v = absolute(n);
-    if v == 0 {
-        return put_decimal(out, at, 0);
-    }
-    if n < 0 {
-        let p = put_byte(out, at, b'-');
-        return put_decimal(out, p, v);
-    }
-    let p = put_byte(out, at, b'+');
-    put_decimal(out, p, v)
 }
 
 // Lock n, which is bit 0 of s, where it is in the set, and a comma where others follow.

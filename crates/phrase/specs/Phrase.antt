@@ -10,7 +10,7 @@ use Rattle.output.specs.Output.{bytes, decimal}
 use Rattle.phrase.specs.declared.Source.{Source}
 use Rattle.phrase.specs.declared.Source.the-variants as source
 
--- FILE: "of a kept line also the text" (docs/TOOL.md).
+-- SOURCE: "of a kept line also the text" (docs/TOOL.md).
 unfoldable pub sourceText : Source → List ℕ
 sourceText source.Recording = bytes "the recording"
 sourceText source.GuardList = bytes "the guard list"

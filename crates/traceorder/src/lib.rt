@@ -1,4 +1,4 @@
-// Functions that C programs call: equality of recordings, the serial order, and displacements.
+// Functions that C programs call: equality of recordings, the serial order, displacements, and commits.
 use equal::EqualReply;
 use equal::Side;
 use frame::Refused;
@@ -11,6 +11,7 @@ ghost use Rattle.equal.specs.Equal.{equalReply};
 ghost use Rattle.guards.specs.declared.Judgement.the-variants.{Declared, Inferred};
 ghost use Rattle.order.specs.Order.{orderUnder, outUnder};
 ghost use Rattle.moves.specs.Moves.{movesUnder, movesOutUnder};
+ghost use Rattle.unitcommits.specs.UnitCommits.{commitsUnder, commitsOutUnder};
 ghost use Rattle.traceorder.specs.Answers.{packedSide, equalAnswer, orderAnswer};
 
 // A refusal of one side of a comparison as one number.
@@ -83,4 +84,24 @@ pub extern "C" fn trace_moves_inferred(words: &[u32], moves: &mut [i32]) -> u64
 {
     let n = moves::moves(Judgement::Inferred, b"", words, moves);
     pack_order(n)
+}
+
+// Where each unit commits, with declared guards.
+#[no_mangle]
+pub extern "C" fn trace_commits_declared(list: &[u8], words: &[u32], commits: &mut [u32]) -> u64
+    ensures reply { λ n. ⌜ n ≡ orderAnswer (commitsUnder Declared (now (list .entry)) (now (words .entry))) ⌝ }
+    ensures contents { λ n. ⌜ now (commits .exit) ≡ commitsOutUnder Declared (now (list .entry)) (now (words .entry)) (now (commits .entry)) ⌝ }
+{
+    let c = unitcommits::commits(Judgement::Declared, list, words, commits);
+    pack_order(c)
+}
+
+// Where each unit commits, with inferred guards.
+#[no_mangle]
+pub extern "C" fn trace_commits_inferred(words: &[u32], commits: &mut [u32]) -> u64
+    ensures reply { λ n. ⌜ n ≡ orderAnswer (commitsUnder Inferred [] (now (words .entry))) ⌝ }
+    ensures contents { λ n. ⌜ now (commits .exit) ≡ commitsOutUnder Inferred [] (now (words .entry)) (now (commits .entry)) ⌝ }
+{
+    let d = unitcommits::commits(Judgement::Inferred, b"", words, commits);
+    pack_order(d)
 }

@@ -9,6 +9,9 @@ use std::fmt;
 /// Elements on both sides of each buffer, which no call may touch.
 pub const MARGIN: usize = 16;
 
+/// Reply, source, text, words and the output.
+type SayRefusal = fn(u64, u32, &[u8], &[u32], &mut [u8]) -> usize;
+
 /// One function for each call.
 pub struct Implementation {
     pub name: &'static str,
@@ -22,9 +25,16 @@ pub struct Implementation {
     pub serial_inferred: fn(&[u32], &mut [u32]) -> u64,
     pub moves_declared: fn(&[u8], &[u32], &mut [i32]) -> u64,
     pub moves_inferred: fn(&[u32], &mut [i32]) -> u64,
+    pub commits_declared: fn(&[u8], &[u32], &mut [u32]) -> u64,
+    pub commits_inferred: fn(&[u32], &mut [u32]) -> u64,
     pub write: fn(&[u32], &mut [u8], usize) -> u64,
     pub line_read: fn(&[u8], FieldsOut) -> u64,
     pub line_write: fn(Fields, &mut [u8]) -> u64,
+    pub say_verdict: fn(&[u8], &[u32], &mut [u8]) -> usize,
+    pub say_refusal: SayRefusal,
+    pub say_line: fn(&[u8], &mut [u8]) -> usize,
+    pub say_kind: fn(u8, &mut [u8]) -> usize,
+    pub say_refusal_name: fn(u8, &mut [u8]) -> usize,
 }
 
 pub const REFERENCE: Implementation = Implementation {
@@ -39,9 +49,16 @@ pub const REFERENCE: Implementation = Implementation {
     serial_inferred: crate::serial_inferred,
     moves_declared: crate::moves_declared,
     moves_inferred: crate::moves_inferred,
+    commits_declared: crate::commits_declared,
+    commits_inferred: crate::commits_inferred,
     write: crate::write,
     line_read: crate::line_read,
     line_write: crate::line_write,
+    say_verdict: crate::say_verdict,
+    say_refusal: crate::say_refusal,
+    say_line: crate::say_line,
+    say_kind: crate::say_kind,
+    say_refusal_name: crate::say_refusal_name,
 };
 
 // Calls.
@@ -58,12 +75,19 @@ pub enum Call {
     SerialInferred,
     MovesDeclared,
     MovesInferred,
+    CommitsDeclared,
+    CommitsInferred,
     Write,
     LineRead,
     LineWrite,
+    SayVerdict,
+    SayRefusal,
+    SayLine,
+    SayKind,
+    SayRefusalName,
 }
 
-pub const CALLS: [Call; 13] = [
+pub const CALLS: [Call; 20] = [
     Call::Check,
     Call::Read,
     Call::Guards,
@@ -74,9 +98,16 @@ pub const CALLS: [Call; 13] = [
     Call::SerialInferred,
     Call::MovesDeclared,
     Call::MovesInferred,
+    Call::CommitsDeclared,
+    Call::CommitsInferred,
     Call::Write,
     Call::LineRead,
     Call::LineWrite,
+    Call::SayVerdict,
+    Call::SayRefusal,
+    Call::SayLine,
+    Call::SayKind,
+    Call::SayRefusalName,
 ];
 
 const NAMES: [&str; CALLS.len()] = [
@@ -90,13 +121,21 @@ const NAMES: [&str; CALLS.len()] = [
     "serial inferred",
     "moves declared",
     "moves inferred",
+    "commits declared",
+    "commits inferred",
     "write",
     "line read",
     "line write",
+    "say verdict",
+    "say refusal",
+    "say line",
+    "say kind",
+    "say refusal name",
 ];
 
 /// Kinds and refusals that can occur, per call. Kind 0 of read, guards and line read: accepted; of
-/// equal: not equal, and 1: equal; of serial orders, displacements, write and line write: written.
+/// equal: not equal, and 1: equal; of serial orders, displacements, commits, write, line write and
+/// words: written.
 const POSSIBLE: [(&[usize], &[usize]); CALLS.len()] = [
     (&[0, 3, 4], &[1, 2, 4, 5, 6, 7, 8, 9, 10, 17, 20]),
     (&[0], &[1, 2, 3]),
@@ -108,9 +147,16 @@ const POSSIBLE: [(&[usize], &[usize]); CALLS.len()] = [
     (&[0], &[2, 4, 5, 6, 7, 8, 9, 10, 13, 14, 15, 20]),
     (&[0], &[1, 2, 4, 5, 6, 7, 8, 9, 10, 11, 12, 13, 14, 20, 21]),
     (&[0], &[2, 4, 5, 6, 7, 8, 9, 10, 13, 14, 20, 21]),
+    (&[0], &[1, 2, 4, 5, 6, 7, 8, 9, 10, 11, 12, 20]),
+    (&[0], &[2, 4, 5, 6, 7, 8, 9, 10, 20]),
     (&[0], &[2, 4, 5, 6, 7, 8, 9, 10, 19, 20]),
     (&[0], &[18]),
     (&[0], &[17, 18]),
+    (&[0], &[]),
+    (&[0], &[]),
+    (&[0], &[]),
+    (&[0], &[]),
+    (&[0], &[]),
 ];
 
 impl Call {
@@ -174,7 +220,17 @@ impl Call {
     }
 
     fn writes_words(self) -> bool {
-        self == Call::Read || self.is_serial()
+        self == Call::Read || self.is_serial() || self.commits()
+    }
+
+    /// The commits of units are written.
+    pub fn commits(self) -> bool {
+        matches!(self, Call::CommitsDeclared | Call::CommitsInferred)
+    }
+
+    /// Words are written.
+    pub fn says(self) -> bool {
+        self as usize >= Call::SayVerdict as usize
     }
 }
 
@@ -184,18 +240,23 @@ impl Call {
 #[derive(Clone)]
 pub struct Case {
     pub call: Call,
-    /// Recording text, guard list, or verdict line.
+    /// Recording text, guard list, verdict line, or what was refused.
     pub text: Vec<u8>,
     pub frames: Vec<u32>,
     /// The right recording.
     pub right: Vec<u32>,
-    /// Of the line that is written.
+    /// Of the line that is written. Its kind is also that whose name is asked for, or a refusal's
+    /// number.
     pub fields: Fields,
+    /// Of the refusal that is said, and what it speaks of.
+    pub reply: u64,
+    pub source: u32,
     pub line_len: usize,
-    /// Also the length of the output of a serial order, and of the list of displacements.
+    /// Also the length of the output of a serial order, and of the lists of displacements and of
+    /// commits.
     pub words_len: usize,
     pub sets_len: usize,
-    /// The text that is written, and the place from which on.
+    /// The text that is written or said, and the place from which on.
     pub text_len: usize,
     pub place: usize,
     /// Decides the contents of the lent buffers before the call.
@@ -308,6 +369,8 @@ impl Case {
             frames: Vec::new(),
             right: Vec::new(),
             fields: Fields::default(),
+            reply: 0,
+            source: 0,
             line_len: LINE_BYTES,
             words_len: 0,
             sets_len: VARIABLES,
@@ -330,7 +393,8 @@ impl Case {
         let moved = call.serial().is_some();
         let mut moves = filled(random, moved, self.words_len, |x| x as i32);
         let mut sets = filled(random, call == Call::Inferred, self.sets_len, |x| x);
-        let mut written = filled(random, call == Call::Write, self.text_len, |x| x as u8);
+        let writes = call == Call::Write || call.says();
+        let mut written = filled(random, writes, self.text_len, |x| x as u8);
         let mut numbers = Numbers::filled(random);
         let (line_out, words_out, sets_out) = (slot(&mut line), slot(&mut words), slot(&mut sets));
         let (moves_out, text_out) = (slot(&mut moves), slot(&mut written));
@@ -346,11 +410,19 @@ impl Case {
             serial_inferred,
             moves_declared,
             moves_inferred,
+            commits_declared,
+            commits_inferred,
             write,
             line_read,
             line_write,
+            say_verdict,
+            say_refusal,
+            say_line,
+            say_kind,
+            say_refusal_name,
             ..
         } = implementation;
+        let (refused, source, kind) = (self.reply, self.source, self.fields.kind);
         let reply = match call {
             Call::Check => check(text_in, line_out).into(),
             Call::Read => read(text_in, words_out),
@@ -362,9 +434,16 @@ impl Case {
             Call::SerialInferred => serial_inferred(frames_in, words_out),
             Call::MovesDeclared => moves_declared(text_in, frames_in, moves_out),
             Call::MovesInferred => moves_inferred(frames_in, moves_out),
+            Call::CommitsDeclared => commits_declared(text_in, frames_in, words_out),
+            Call::CommitsInferred => commits_inferred(frames_in, words_out),
             Call::Write => write(frames_in, text_out, self.place),
             Call::LineRead => line_read(text_in, numbers.lent()),
             Call::LineWrite => line_write(self.fields, line_out),
+            Call::SayVerdict => say_verdict(text_in, frames_in, text_out) as u64,
+            Call::SayRefusal => say_refusal(refused, source, text_in, frames_in, text_out) as u64,
+            Call::SayLine => say_line(text_in, text_out) as u64,
+            Call::SayKind => say_kind(kind, text_out) as u64,
+            Call::SayRefusalName => say_refusal_name(kind, text_out) as u64,
         };
         let (text, frames, right) = std::hint::black_box((text, frames, right));
         Outcome {
@@ -486,6 +565,7 @@ impl fmt::Display for Case {
         writeln!(to, "frames {:08X?}", self.frames)?;
         writeln!(to, "right frames {:08X?}", self.right)?;
         writeln!(to, "fields {:X?}", self.fields)?;
+        writeln!(to, "reply {:X}, source {}", self.reply, self.source)?;
         let (line, words, sets) = (self.line_len, self.words_len, self.sets_len);
         let (text, place, fill) = (self.text_len, self.place, self.fill);
         write!(
@@ -574,8 +654,9 @@ pub fn frames(words: &str) -> Vec<u32> {
 /// So many frames are near the limit of the length.
 pub const LONG: usize = 4000;
 
-/// Boundaries of the calls that write a text, and read or write a verdict line; all must be met.
-pub const EDGES: [&str; 15] = [
+/// Boundaries of the calls that write a text, read or write a verdict line, write commits or say
+/// words; all must be met.
+pub const EDGES: [&str; 22] = [
     "text written, exactly enough room",
     "  from a later place",
     "text refused, a byte less",
@@ -591,6 +672,13 @@ pub const EDGES: [&str; 15] = [
     "line refused, a byte of 33",
     "line refused, its length",
     "line buffer short and kind refused",
+    "commits of a list shorter than the recording",
+    "commits of an open block that has none",
+    "commits of an open block that has one",
+    "commits behind a violation",
+    "words said, exactly enough room",
+    "words cut off by a byte",
+    "nothing to say",
 ];
 
 /// A place from here on wraps with the bytes of some recording.
@@ -649,7 +737,9 @@ impl Tally {
             self.count_holds(case, outcome, kind, refusal);
         }
         let texts = text_edges(case, outcome, refusal);
-        let met = texts.into_iter().chain(line_edges(case, outcome, refusal));
+        let lines = line_edges(case, outcome, refusal);
+        let met = texts.into_iter().chain(lines);
+        let met = met.chain(said_edges(case, outcome, refusal));
         for (count, met) in self.edges.iter_mut().zip(met) {
             *count += usize::from(met);
         }
@@ -747,8 +837,8 @@ fn text_edges(case: &Case, outcome: &Outcome, refusal: usize) -> [bool; 10] {
     ]
 }
 
-/// The others of `EDGES`.
-fn line_edges(case: &Case, outcome: &Outcome, refusal: usize) -> [bool; EDGES.len() - 10] {
+/// The next five of `EDGES`.
+fn line_edges(case: &Case, outcome: &Outcome, refusal: usize) -> [bool; 5] {
     let read = case.call == Call::LineRead && refusal == 0;
     let refused = case.call == Call::LineRead && refusal == 18;
     let fields = outcome.numbers.fields();
@@ -762,5 +852,34 @@ fn line_edges(case: &Case, outcome: &Outcome, refusal: usize) -> [bool; EDGES.le
         refused && whole && !formed(),
         refused && !whole,
         case.call == Call::LineWrite && refusal == 17 && kind_refused,
+    ]
+}
+
+/// The others of `EDGES`.
+fn said_edges(case: &Case, outcome: &Outcome, refusal: usize) -> [bool; EDGES.len() - 15] {
+    let (call, whole, room) = (case.call, outcome.reply as usize, case.text_len);
+    let (said, written) = (call.says(), call.commits() && refusal == 0);
+    let mut open = [false; 2];
+    let mut wrong = false;
+    if written && case.words_len >= case.frames.len() {
+        let list = call.takes_list().then_some(&case.text[..]);
+        let declared = list.map(|list| crate::read_guards(list).expect("accepted"));
+        let frames = crate::check_recording(&case.frames).expect("accepted");
+        for unit in crate::units(&frames, &declared) {
+            open[usize::from(unit.commit.is_some())] |= !unit.closed;
+        }
+        let reducible = crate::Verdict::Reducible {
+            frames: frames.len(),
+        };
+        wrong = crate::verdict(&frames, &declared) != reducible;
+    }
+    [
+        written && case.words_len < case.frames.len(),
+        open[0],
+        open[1],
+        wrong,
+        said && whole > 0 && room == whole,
+        said && room + 1 == whole,
+        said && whole == 0,
     ]
 }

@@ -2,9 +2,9 @@
 
 use trace_tests::words::{GUARD_LIST, LEFT, RECORDING, RIGHT, TEXT};
 
-pub const FILES: [&str; 5] = [RECORDING, GUARD_LIST, LEFT, RIGHT, TEXT];
-const HOLES: [&str; 10] = [
-    "LINE", "PLACE", "T", "V", "N", "FILE", "ACTION", "LOCKS", "NAME", "NUMBER",
+pub const SOURCES: [&str; 5] = [RECORDING, GUARD_LIST, LEFT, RIGHT, TEXT];
+const HOLES: [&str; 12] = [
+    "LINE", "PLACE", "T", "V", "N", "M", "SOURCE", "ACTION", "LOCKS", "NAME", "NEAR", "NUMBER",
 ];
 
 /// What stands before the sections, and the sections.
@@ -52,10 +52,10 @@ fn is_action(text: &str) -> bool {
 /// Whether a word in capitals stands for this text.
 fn stands_for(hole: &str, text: &str) -> bool {
     match hole {
-        "FILE" => FILES.contains(&text),
+        "SOURCE" => SOURCES.contains(&text),
         "ACTION" => is_action(text),
         "LOCKS" => matches!(text, "none" | "all 64") || text.split(", ").all(is_number),
-        "NAME" => true,
+        "NAME" | "NEAR" => true,
         _ => is_number(text),
     }
 }
@@ -82,8 +82,12 @@ pub fn fits(template: &str, line: &str) -> bool {
     let Some((before, hole, after)) = first_hole(template) else {
         return false;
     };
+    let literal = first_hole(after).map_or(after, |(literal, ..)| literal);
     line.strip_prefix(before).is_some_and(|rest| {
         let mut ends = (0..=rest.len()).filter(|&end| rest.is_char_boundary(end));
-        ends.any(|end| stands_for(hole, &rest[..end]) && fits(after, &rest[end..]))
+        ends.any(|end| {
+            let (held, left) = rest.split_at(end);
+            left.starts_with(literal) && stands_for(hole, held) && fits(after, left)
+        })
     })
 }

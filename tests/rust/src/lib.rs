@@ -5,6 +5,7 @@ use std::collections::{BTreeMap, BTreeSet, VecDeque};
 pub mod adversarial;
 pub mod case;
 pub mod holds;
+pub mod library;
 pub mod plain;
 pub mod random;
 pub mod random_case;
@@ -451,29 +452,31 @@ pub fn brute_equal(left: &[u32], right: &[u32]) -> bool {
 
 // Serial order and displacements.
 
+/// A block from its outermost begin on, or one frame outside any block.
 struct Unit {
+    /// None of a block that is open at the end and has not committed.
     commit: Option<usize>,
     places: Vec<usize>,
+    closed: bool,
 }
 
-/// The places of a sound recording in serial order. Refusals 13 and 14.
-fn serial_places(frames: &[Frame], declared: &Declared) -> Result<Vec<usize>, Refusal> {
-    if let Verdict::Violation(violation) = verdict(frames, declared) {
-        return refuse(13, violation.frame);
-    }
+/// The units of a sound recording, which need not be reducible, in the order of their starts.
+fn units(frames: &[Frame], declared: &Declared) -> Vec<Unit> {
     let guards = declared.as_ref();
     let unprotected = |variable| guards.is_some_and(|guards| !guards.contains_key(&variable));
-    let mut units = Vec::new();
-    // Each thread's open block and its depth.
-    let mut blocks: BTreeMap<u8, (Unit, u32)> = BTreeMap::new();
+    let mut units: Vec<Unit> = Vec::new();
+    // Each thread's open block, by its number in `units`, and its depth.
+    let mut blocks: BTreeMap<u8, (usize, u32)> = BTreeMap::new();
     for (place, frame) in frames.iter().enumerate() {
-        let (mut unit, depth) = blocks.remove(&frame.thread).unwrap_or((
-            Unit {
+        let (number, depth) = blocks.remove(&frame.thread).unwrap_or_else(|| {
+            units.push(Unit {
                 commit: None,
                 places: Vec::new(),
-            },
-            0,
-        ));
+                closed: false,
+            });
+            (units.len() - 1, 0)
+        });
+        let unit = &mut units[number];
         unit.places.push(place);
         let (depth, commits) = match frame.action {
             Action::Begin => (depth + 1, false),
@@ -483,18 +486,35 @@ fn serial_places(frames: &[Frame], declared: &Declared) -> Result<Vec<usize>, Re
             Action::InnerAcquire(_) | Action::InnerRelease(_) => (depth, false),
             Action::Read(variable) | Action::Write(variable) => (depth, unprotected(variable)),
         };
+        unit.closed = depth == 0;
         // The end of a block and a single frame commit what did not commit before.
-        if commits || depth == 0 {
+        if commits || unit.closed {
             unit.commit.get_or_insert(place);
         }
-        if depth == 0 {
-            units.push(unit);
-        } else {
-            blocks.insert(frame.thread, (unit, depth));
+        if !unit.closed {
+            blocks.insert(frame.thread, (number, depth));
         }
     }
-    if let Some(begin) = blocks.values().map(|(unit, _)| unit.places[0]).min() {
-        return refuse(14, begin);
+    units
+}
+
+/// The commit of the unit that starts at each place, if one starts there and has committed.
+fn commits(frames: &[Frame], declared: &Declared) -> Vec<Option<usize>> {
+    let mut commits = vec![None; frames.len()];
+    for unit in units(frames, declared) {
+        commits[unit.places[0]] = unit.commit;
+    }
+    commits
+}
+
+/// The places of a sound recording in serial order. Refusals 13 and 14.
+fn serial_places(frames: &[Frame], declared: &Declared) -> Result<Vec<usize>, Refusal> {
+    if let Verdict::Violation(violation) = verdict(frames, declared) {
+        return refuse(13, violation.frame);
+    }
+    let mut units = units(frames, declared);
+    if let Some(open) = units.iter().find(|unit| !unit.closed) {
+        return refuse(14, open.places[0]);
     }
     units.sort_by_key(|unit| unit.commit);
     Ok(units.into_iter().flat_map(|unit| unit.places).collect())
@@ -693,6 +713,27 @@ pub fn moves_inferred(words: &[u32], moves: &mut [i32]) -> u64 {
     write_each(None, words, moves, 21, displacements)
 }
 
+/// Without a list guards are inferred.
+fn write_commits(list: Option<&[u8]>, words: &[u32], out: &mut [u32]) -> u64 {
+    let mut written = || {
+        let declared = list.map(read_guards).transpose()?;
+        let commits = commits(&check_recording(words)?, &declared);
+        for (out, commit) in out.iter_mut().zip(commits) {
+            *out = commit.map_or(*out, |commit| commit as u32 + 1);
+        }
+        Ok(words.len())
+    };
+    packed(written())
+}
+
+pub fn commits_declared(list: &[u8], words: &[u32], commits: &mut [u32]) -> u64 {
+    write_commits(Some(list), words, commits)
+}
+
+pub fn commits_inferred(words: &[u32], commits: &mut [u32]) -> u64 {
+    write_commits(None, words, commits)
+}
+
 pub fn write(words: &[u32], text: &mut [u8], place: usize) -> u64 {
     packed(check_recording(words).and_then(|_| {
         let lines: String = words.iter().map(|word| format!("{word:08X}\n")).collect();
@@ -745,4 +786,31 @@ pub fn line_write(fields: Fields, line: &mut [u8]) -> u64 {
     }
     line[..LINE_BYTES].copy_from_slice(fields.line().as_bytes());
     LINE_BYTES as u64
+}
+
+/// Writes as much of a text as there is room for; the number of bytes of the whole.
+fn say(text: String, out: &mut [u8]) -> usize {
+    let count = text.len().min(out.len());
+    out[..count].copy_from_slice(&text.as_bytes()[..count]);
+    text.len()
+}
+
+pub fn say_verdict(line: &[u8], words: &[u32], out: &mut [u8]) -> usize {
+    say(words::line_text(line, words), out)
+}
+
+pub fn say_refusal(reply: u64, source: u32, text: &[u8], words: &[u32], out: &mut [u8]) -> usize {
+    say(words::reply_text(reply, source, text, words), out)
+}
+
+pub fn say_line(line: &[u8], out: &mut [u8]) -> usize {
+    say(words::line_text(line, &[]), out)
+}
+
+pub fn say_kind(kind: u8, out: &mut [u8]) -> usize {
+    say(words::kind_name(kind), out)
+}
+
+pub fn say_refusal_name(number: u8, out: &mut [u8]) -> usize {
+    say(words::refusal_name(number), out)
 }

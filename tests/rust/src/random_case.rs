@@ -2,9 +2,11 @@
 //! verdict lines, with lent buffers of fitting and of other lengths.
 
 use crate::adversarial::{random_fields, random_line, random_room};
-use crate::case::{Call, Case};
+use crate::case::{Call, Case, REFERENCE};
 use crate::random::{self, text_of_words, Plan, Random};
-use crate::serial_inferred;
+use crate::{
+    declared, equal, guards, inferred, read, serial_inferred, LINE_BYTES, MOST_FRAMES, VARIABLES,
+};
 
 fn small_plan(random: &mut Random, unprotected: usize) -> Plan {
     Plan {
@@ -219,7 +221,12 @@ pub fn random_case(random: &mut Random, call: Call, long: bool) -> Case {
         }
         Call::Inferred => case.frames = random_recording(random, call, long).words,
         Call::Equal => (case.frames, case.right) = random_pair(random, long),
-        Call::SerialDeclared | Call::SerialInferred | Call::MovesDeclared | Call::MovesInferred => {
+        Call::SerialDeclared
+        | Call::SerialInferred
+        | Call::MovesDeclared
+        | Call::MovesInferred
+        | Call::CommitsDeclared
+        | Call::CommitsInferred => {
             let made = random_units(random, call, long);
             if call.takes_list() {
                 case.text = match random.below(10) {
@@ -247,6 +254,84 @@ pub fn random_case(random: &mut Random, call: Call, long: bool) -> Case {
         }
         Call::LineRead => case.text = random_line(random),
         Call::LineWrite => case.fields = random_fields(random),
+        Call::SayVerdict => (case.text, case.frames) = random_verdict(random, long),
+        Call::SayRefusal => random_refusal(random, &mut case, long),
+        Call::SayLine => case.text = random_line(random),
+        Call::SayKind | Call::SayRefusalName => case.fields.kind = random.draw() as u8,
+    }
+    if call.says() {
+        case.text_len = random_said_len(random, case.run(&REFERENCE).reply as usize);
     }
     case
+}
+
+/// A length of the output about as long as need be.
+pub fn random_said_len(random: &mut Random, whole: usize) -> usize {
+    match random.below(10) {
+        0 => random.below(whole + 1),
+        1..3 => whole.saturating_sub(1),
+        3..6 => whole,
+        6 => 0,
+        _ => whole + random.below(40),
+    }
+}
+
+/// A verdict line with the words that it is of, or with none.
+fn random_verdict(random: &mut Random, long: bool) -> (Vec<u8>, Vec<u32>) {
+    if random.chance(100) {
+        return (random_line(random), Vec::new());
+    }
+    let call = random.pick(&[Call::Declared, Call::Inferred]);
+    let made = random_recording(random, call, long);
+    let list = match random.chance(800) {
+        true => exact_list(random, &made.guards),
+        false => random_list(random, &made.guards),
+    };
+    let mut line = vec![0; LINE_BYTES];
+    match call {
+        Call::Declared => declared(&list, &made.words, &mut line),
+        _ => inferred(&made.words, &mut [0; VARIABLES], &mut line),
+    };
+    match random.chance(100) {
+        true => (line, Vec::new()),
+        false => (line, made.words),
+    }
+}
+
+/// The refusal of a text, of a list or of words that are at hand, or any number and place.
+fn random_refusal(random: &mut Random, case: &mut Case, long: bool) {
+    case.source = random.pick(&[0, 0, 1, 2, 3, 4, 5, 256, u32::MAX]);
+    case.reply = match random.below(5) {
+        0 => {
+            case.text = random_text(random, Call::Read, long);
+            read(&case.text, &mut [0; MOST_FRAMES])
+        }
+        1 => {
+            let made = random_recording(random, Call::Guards, long);
+            case.text = random_list(random, &made.guards);
+            guards(&case.text)
+        }
+        2 | 3 => {
+            case.frames = random_recording(random, Call::Write, long).words;
+            if random.chance(700) {
+                random::damage_frames(random, &mut case.frames);
+            }
+            equal(&case.frames, &[])
+        }
+        _ => {
+            let number = match random.chance(800) {
+                true => random.between(1, 24) as u64,
+                false => random.between(1, 255) as u64,
+            };
+            let place = random.draw() as u32 >> random.below(32);
+            number << 32 | u64::from(place)
+        }
+    };
+    // The side of a comparison says nothing here.
+    if case.reply >> 32 != 0 && random.chance(300) {
+        case.reply |= 256 << 32;
+    }
+    if random.chance(100) {
+        (case.text, case.frames) = (Vec::new(), Vec::new());
+    }
 }

@@ -7,8 +7,8 @@ use crate::{reads, MOST_REFUSAL};
 /// A tally for each call.
 pub type Tallies = [Tally; CALLS.len()];
 
-/// What an answer is counted as. Lines and lists are accepted; serial orders, displacements, texts
-/// and verdict lines written.
+/// What an answer is counted as. Lines and lists are accepted; serial orders, displacements, commits,
+/// texts, verdict lines and words written.
 #[derive(Clone, Copy, Debug)]
 pub enum Answer {
     Kind(usize),
@@ -55,7 +55,7 @@ impl Column {
             }
             Answer::Written => {
                 let writes = matches!(call, Call::Write | Call::LineWrite);
-                kind(call.orders() || writes, 0)
+                kind(call.orders() || call.commits() || call.says() || writes, 0)
             }
             Answer::Equal => kind(call == Call::Equal, 1),
             Answer::Different => kind(call == Call::Equal, 0),

@@ -1,6 +1,7 @@
 -- The line of the fault is its sentence.
 use mathlib.Core.Path.{sym}
 use Rattle.output.specs.Output.{bytes}
+use Rattle.textlines.proofs.Tables.{joined}
 use Rattle.linefault.proofs.Sentences.{fault-line}
 use borrow.Author.Needs.{needs}
 use Rattle.linefault.proofs.put_fault.Statement.{statement}
@@ -22,7 +23,7 @@ same-length : tie.Need-same-length
 same-length c = search needs
 
 returns : tie.Need-returns
-unfolding bytes
+unfolding bytes joined
 returns c =
     rw (sym (fault-line (c .before .before .before .before .before .before .before .before .args .f))) (rw (c .before .before .before .before .nth-line .ensures, c .before .before .before .before .before .before .fault-number .ensures) at (c .before .before .put-text .ensures))
 

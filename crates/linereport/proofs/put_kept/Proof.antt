@@ -13,9 +13,6 @@ enum-known-k c = search needs
 source-of-requires : tie.Need-source-of-requires
 source-of-requires c κs = search needs
 
-slice-aggregate-explain : tie.Need-slice-aggregate-explain
-slice-aggregate-explain c = search needs
-
 cast-explain : tie.Need-cast-explain
 cast-explain c = search needs
 
@@ -39,7 +36,7 @@ same-length c = search needs
 
 returns : tie.Need-returns
 returns c =
-    rw (sym (c .before .before .before .before .before .before .before .before .before .before .reply-of .ensures) ∙ c .before .before .before .before .before .before .before .before .k .given .1, ← c .before .before .before .before .before .before .source-of .ensures) (c .before .before .explain .ensures)
+    rw (sym (c .before .before .before .before .before .before .before .before .before .reply-of .ensures) ∙ c .before .before .before .before .before .before .before .k .given .1, ← c .before .before .before .before .before .source-of .ensures) (c .before .before .explain .ensures)
 
 same-length-2 : tie.Need-same-length-2
 same-length-2 c = search needs
@@ -55,7 +52,6 @@ put-kept-spec =
     reply-of-requires
     enum-known-k
     source-of-requires
-    slice-aggregate-explain
     cast-explain
     explain-requires
     enum-known-k-2

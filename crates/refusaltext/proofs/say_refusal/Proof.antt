@@ -2,6 +2,7 @@
 use mathlib.Core.Path.{sym}
 use Rattle.output.specs.Output.{bytes}
 use Rattle.sentence.specs.Sentence.{known}
+use Rattle.textlines.proofs.Tables.{joined}
 use Rattle.refusaltext.proofs.Sentences.{refusal-line}
 use borrow.Author.Needs.{needs}
 use Rattle.refusaltext.proofs.say_refusal.Statement.{statement}
@@ -26,7 +27,7 @@ same-length : tie.Need-same-length
 same-length c = search needs
 
 returns : tie.Need-returns
-unfolding bytes
+unfolding bytes joined
 returns c =
     let a = c .before .before .before .before .before .before .before .before .before .args in
     rw (sym (refusal-line (a .reason) (known (a .f .frame)))) (rw (c .before .before .before .before .nth-line .ensures, c .before .before .before .before .before .before .line-of .ensures, c .before .before .before .before .before .before .before .known .ensures) at (c .before .before .say .ensures))

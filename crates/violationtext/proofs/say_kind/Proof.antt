@@ -2,6 +2,7 @@
 use mathlib.Core.Path.{sym}
 use borrow.Author.Needs.{needs}
 use Rattle.output.specs.Output.{bytes}
+use Rattle.textlines.proofs.Tables.{joined}
 use Rattle.violationtext.proofs.Sentences.{kind-numbered, kind-line}
 use Rattle.violationtext.proofs.say_kind.Statement.{statement}
 use Rattle.violationtext.proofs.say_kind.Tie as tie
@@ -25,7 +26,7 @@ same-length : tie.Need-same-length
 same-length c = search needs
 
 returns : tie.Need-returns
-unfolding bytes
+unfolding bytes joined
 returns c =
     let r = c .before .before .before .before .before .before .before .before .args .kind in
     rw (sym (kind-line r)) (rw (c .before .before .before .before .nth-line .ensures, c .before .before .before .before .before .before .kind-number .ensures) at (c .before .before .say .ensures))

@@ -1,6 +1,7 @@
 -- The line of the kind is its sentence.
 use mathlib.Core.Path.{sym}
 use Rattle.output.specs.Output.{bytes}
+use Rattle.textlines.proofs.Tables.{joined}
 use Rattle.violationtext.proofs.Sentences.{why-line}
 use borrow.Author.Needs.{needs}
 use Rattle.violationtext.proofs.say_why.Statement.{statement}
@@ -22,7 +23,7 @@ same-length : tie.Need-same-length
 same-length c = search needs
 
 returns : tie.Need-returns
-unfolding bytes
+unfolding bytes joined
 returns c =
     let a = c .before .before .before .before .before .before .before .before .args in
     rw (sym (why-line (a .kind) (a .known))) (rw (c .before .before .before .before .nth-line .ensures, c .before .before .before .before .before .before .why-line .ensures) at (c .before .before .say .ensures))

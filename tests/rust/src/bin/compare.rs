@@ -4,24 +4,21 @@
 
 use std::process::exit;
 use trace_tests::adversarial::{
-    furthest, near_lines, readers, rooms, word, ACQUIRE, BEGIN, EDGE_KINDS, EDGE_PLACES, END, READ,
-    RELEASE, THREADS, WRITE,
+    furthest, near_lines, random_fields, readers, rooms, word, ACQUIRE, BEGIN, EDGE_KINDS,
+    EDGE_PLACES, END, READ, RELEASE, THREADS, WRITE,
 };
 use trace_tests::case::{
     frames, text, Call, Case, Implementation, Outcome, Tally, CALLS, MARGIN, REFERENCE,
 };
 use trace_tests::holds::has_inner_pair;
+use trace_tests::library::LIBRARY;
 use trace_tests::random::{self, text_of_words, Random};
 use trace_tests::random_case::{random_case, random_recording, random_right};
 use trace_tests::table::print_edges;
 use trace_tests::{
-    brute_equal, check_recording, equal, moves_declared, moves_inferred, plain, reads, Fields,
-    LINE_BYTES, MOST_FRAMES, VARIABLES,
+    brute_equal, check_recording, equal, moves_declared, moves_inferred, plain, reads, say_line,
+    Fields, LINE_BYTES, MOST_FRAMES, VARIABLES,
 };
-
-#[path = "../ffi.rs"]
-mod ffi;
-use ffi::LIBRARY;
 
 const DEFAULT_SEED: u64 = 1;
 const CHECK_CASES: usize = 200_000;
@@ -32,6 +29,8 @@ const BRUTE_PAIRS: usize = 6_000;
 const BRUTE_FRAMES: usize = 8;
 /// All recordings of up to so many frames, for the furthest displacements.
 const FURTHEST_FRAMES: usize = 6;
+/// Lines and replies with words that are not theirs.
+const FOREIGN: usize = 60_000;
 /// One case of so many is about the limit of 4,096 frames.
 const LONG_EVERY: usize = 400;
 
@@ -73,9 +72,16 @@ const NOTHING: Implementation = Implementation {
     serial_inferred: |_, _| 0,
     moves_declared: |_, _, _| 0,
     moves_inferred: |_, _| 0,
+    commits_declared: |_, _, _| 0,
+    commits_inferred: |_, _| 0,
     write: |_, _, _| 0,
     line_read: |_, _| 0,
     line_write: |_, _| 0,
+    say_verdict: |_, _, _| 0,
+    say_refusal: |_, _, _, _, _| 0,
+    say_line: |_, _| 0,
+    say_kind: |_, _| 0,
+    say_refusal_name: |_, _| 0,
 };
 
 /// The outcome of the reference, which the library and the plain checker must share.
@@ -359,6 +365,78 @@ impl Literals {
                 outcome.line == line_after
             });
         }
+    }
+
+    /// The commit of the unit that starts at each place, or none, in lists of several lengths.
+    fn commits(&mut self, list: Option<&str>, words: &str, commits: &[Option<u32>]) {
+        let (list, frames) = (list.map(text), frames(words));
+        let count = frames.len();
+        for len in [0, 1, count.saturating_sub(1), count, count + 1, count + 20] {
+            let calls = [Call::CommitsInferred, Call::CommitsDeclared];
+            let case = order_case(calls, list.as_deref(), &frames, len);
+            self.expect(case, count as u64, &|outcome, before| {
+                let mut after = before.words.clone();
+                for (entry, commit) in after[MARGIN..][..len].iter_mut().zip(commits) {
+                    *entry = commit.map_or(*entry, |commit| commit + 1);
+                }
+                outcome.words == after
+            });
+        }
+    }
+
+    fn commits_refused(&mut self, list: Option<&str>, words: &str, number: u64, place: u64) {
+        let (list, frames) = (list.map(text), frames(words));
+        for len in [0, frames.len(), frames.len() + 5] {
+            let calls = [Call::CommitsInferred, Call::CommitsDeclared];
+            let case = order_case(calls, list.as_deref(), &frames, len);
+            self.expect(case, number << 32 | place, &|outcome, before| {
+                outcome.words == before.words
+            });
+        }
+    }
+
+    /// The words said, into outputs of several lengths.
+    fn said(&mut self, mut case: Case, said: &str) {
+        let whole = said.len();
+        for len in [
+            0,
+            1,
+            whole / 2,
+            whole.saturating_sub(1),
+            whole,
+            whole + 1,
+            whole + 50,
+        ] {
+            case.text_len = len;
+            self.expect(case.clone(), whole as u64, &|outcome, before| {
+                let mut after = before.text.clone();
+                let count = len.min(whole);
+                after[MARGIN..][..count].copy_from_slice(&said.as_bytes()[..count]);
+                outcome.text == after
+            });
+        }
+    }
+
+    fn said_verdict(&mut self, line: &str, words: &str, said: &str) {
+        let mut case = Case::new(Call::SayVerdict);
+        (case.text, case.frames) = (text(line), frames(words));
+        self.said(case, said);
+    }
+
+    /// The refusal of a text or of words, which may be at hand or not.
+    fn said_refusal(&mut self, reply: (u64, u64), source: u32, at: (&[u8], &str), said: &str) {
+        for side in [0, 256] {
+            let mut case = Case::new(Call::SayRefusal);
+            (case.reply, case.source) = ((reply.0 | side) << 32 | reply.1, source);
+            (case.text, case.frames) = (at.0.to_vec(), frames(at.1));
+            self.said(case, said);
+        }
+    }
+
+    fn said_of(&mut self, call: Call, kind: u8, said: &str) {
+        let mut case = Case::new(call);
+        case.fields.kind = kind;
+        self.said(case, said);
     }
 
     /// Refusal 17 comes first, whatever the input; nothing is written.
@@ -1421,6 +1499,173 @@ fn verdict_lines(to: &mut Literals) {
 
 // Random cases.
 
+/// Units and where they commit.
+fn commit_places(to: &mut Literals) {
+    to.commits(None, "", &[]);
+    let (none, at) = (None, Some::<u32>);
+    // C: thread 0 commits at 4, thread 1 at 8.
+    let c = "05000000 05010000 01000000 04000000 02000000 01010000 04010000 06000000 \
+             02010000 06010000";
+    let mut of_c = [none; 10];
+    (of_c[0], of_c[1]) = (at(4), at(8));
+    to.commits(None, c, &of_c);
+    // Single frames, a block that commits at its end, and one inside another.
+    to.commits(None, "03000005 04010005", &[at(0), at(1)]);
+    to.commits(None, "05000000 06000000", &[at(1), none]);
+    to.commits(
+        None,
+        "05000000 05000000 06000000 06000000",
+        &[at(3), none, none, none],
+    );
+    // An access of a variable without a guard commits with a list alone.
+    let f = "05000000 03000005 06000000";
+    to.commits(Some(""), f, &[at(1), none, none]);
+    to.commits(Some("00050002"), f, &[at(2), none, none]);
+    to.commits(None, f, &[at(2), none, none]);
+    // A violation stops nothing: A goes wrong at 4, and E at 2.
+    let a = "05010000 01010000 03010000 02010000 01010000 03010001 02010000 06010000 05010000 \
+             06010000";
+    let mut of_a = [none; 10];
+    (of_a[0], of_a[8]) = (at(3), at(9));
+    to.commits(None, a, &of_a);
+    to.commits(Some("00000000 00010000"), a, &of_a);
+    to.commits(Some(""), "05000000 03000005 03000005", &[at(1), none, none]);
+    // Open at the end: with a commit and without.
+    to.commits(None, "05000000 01000000 02000000", &[at(2), none, none]);
+    to.commits(None, "05000000 01000000", &[none, none]);
+    to.commits(None, "05000000 03000005", &[none, none]);
+    // An inner release does not commit.
+    let again = "05000000 01000000 01000000 02000000 02000000 06000000";
+    to.commits(None, again, &[at(4), none, none, none, none, none]);
+    to.commits_refused(None, "01000003 01010003", 7, 1);
+    to.commits_refused(None, "03000005 07000000", 4, 1);
+    to.commits_refused(Some("04000000"), "07000000", 11, 0);
+    to.commits_refused(Some("00050002 00050002"), "07000000", 12, 1);
+    to.commits_refused(Some("0005000"), "", 1, 0);
+    let long = "05000000 06000000 ".repeat(2048) + "05000000";
+    to.commits_refused(None, &long, 2, 4096);
+    to.commits_refused(Some(""), &long, 2, 4096);
+}
+
+/// What is said of verdicts, refusals, kept lines, kinds and numbers; docs/TOOL.md has the texts.
+fn words_said(to: &mut Literals) {
+    const MENDED: &str = "  To mend it, hold one lock at every access of the variable.\n";
+    let wrong = "violation: kind 4, candidate set emptied, by thread 0.\n  \
+                 The thread is in no block.\n  It goes wrong at line 1 [0]";
+    let with = format!(
+        "{wrong}: read of variable 5.\n  Locks left that may guard variable 5: all 64. Thread 0 \
+         holds none of them, so no one lock guards every access of the variable.\n{MENDED}"
+    );
+    let without = format!(
+        "{wrong}.\n  Locks left that may guard the variable: all 64. Thread 0 holds none of them, so \
+         no one lock guards every access of the variable.\n{MENDED}"
+    );
+    let line = "04000000FFFFFFFFFFFFFFFFFFFFFFFF";
+    to.said_verdict(line, "03000005", &with);
+    to.said_verdict(line, "", &without);
+    let mut kept = Case::new(Call::SayLine);
+    kept.text = text(line);
+    to.said(kept.clone(), &without);
+    let no_line =
+        "refused: number 18, this is no verdict line: that has 32 digits 0-9 A-F, the first \
+                   two 00 to 04 or 81 to FF, and one LF; hand it on as it was written.\n";
+    for text in [&b""[..], b"\n", line.as_bytes(), &text(line).repeat(2)] {
+        kept.text = text.to_vec();
+        to.said(kept.clone(), no_line);
+        let mut case = Case::new(Call::SayVerdict);
+        (case.text, case.frames) = (text.to_vec(), frames("03000005"));
+        to.said(case, no_line);
+    }
+    to.said_verdict(
+        "00000000FFFFFFFF0000000000000000",
+        "",
+        "reducible: there is nothing in the recording; frames: 0.\n",
+    );
+    to.said_verdict(
+        "00000100FFFFFFFF0000000000000000",
+        "05000000",
+        "reducible: no frame goes wrong; frames: 1.\n",
+    );
+    let held = |frame: &str| {
+        format!("refused: number 7, line 2 [1] of {frame} takes a lock that another thread holds; it has to be released before this line.\n")
+    };
+    let j = "01000003 01010003";
+    let named = "the recording, acquire of lock 3 by thread 1,";
+    to.said_verdict("87000100FFFFFFFF0000000000000000", j, &held(named));
+    to.said_verdict(
+        "87000100FFFFFFFF0000000000000000",
+        "",
+        &held("the recording"),
+    );
+    to.said_refusal((7, 1), 0, (b"", j), &held(named));
+    to.said_refusal(
+        (7, 1),
+        3,
+        (b"x", j),
+        &held("the right recording, acquire of lock 3 by thread 1,"),
+    );
+    to.said_refusal((7, 1), 2, (b"", ""), &held("the left recording"));
+    to.said_refusal((7, 1), 2, (b"", "01000003"), &held("the left recording"));
+    let faulty = |source: &str, fault: &str| {
+        format!("refused: number 1, line 1 [0] of {source} is not eight digits 0-9 A-F and one LF{fault}\n")
+    };
+    let byte = ": column 8 has byte 61, a lower-case letter; write A-F.";
+    let any = "; write it so, without blanks, lower case or CR, and end the last line.";
+    let (guards, text) = ("the guard list", "the text");
+    to.said_refusal((1, 0), 1, (b"0000000a\n", ""), &faulty(guards, byte));
+    to.said_refusal((1, 0), 1, (b"", ""), &faulty(guards, any));
+    for source in [4, 5, 256, u32::MAX] {
+        to.said_refusal((1, 0), source, (b"0000000a\n", ""), &faulty(text, byte));
+    }
+    to.said_verdict("81000000FFFFFFFF0000000000000000", "", &faulty(text, any));
+    // A line that does not begin in the text.
+    let second = faulty(text, any).replace("line 1 [0]", "line 2 [1]");
+    to.said_refusal((1, 1), 4, (b"0000000a\n", ""), &second);
+    to.said_refusal(
+        (22, 7),
+        0,
+        (b"", ""),
+        "refused: number 22, which this check does not give; its place is 7.\n",
+    );
+    to.said_refusal(
+        (255, u32::MAX.into()),
+        0,
+        (b"", ""),
+        "refused: number 255, which this check does not give; its place is 4294967295.\n",
+    );
+    // No refusal.
+    for reply in [0, 1, 33, u32::MAX.into()] {
+        let mut case = Case::new(Call::SayRefusal);
+        (case.reply, case.text) = (reply, b"x".to_vec());
+        to.said(case, "");
+    }
+    for (kind, name) in [
+        (0x00, "reducible"),
+        (0x01, "guard not held"),
+        (0x02, "unprotected access after commit"),
+        (0x03, "acquire after commit"),
+        (0x04, "candidate set emptied"),
+        (0x81, "malformed line"),
+        (0x95, "moves too short"),
+    ] {
+        to.said_of(Call::SayKind, kind, name);
+    }
+    for kind in [0x05, 0x7F, 0x80, 0x96, 0xFF] {
+        to.said_of(Call::SayKind, kind, "");
+    }
+    for (number, name) in [
+        (1, "malformed line"),
+        (8, "lock not held"),
+        (18, "not a verdict line"),
+        (21, "moves too short"),
+    ] {
+        to.said_of(Call::SayRefusalName, number, name);
+    }
+    for number in [0, 22, 128, 129, 255] {
+        to.said_of(Call::SayRefusalName, number, "");
+    }
+}
+
 /// Verdict lines read and written, with begin and commit at each of their edges.
 fn compare_edges() -> Tally {
     let mut tally = Tally::default();
@@ -1544,6 +1789,57 @@ fn compare_furthest() -> bool {
     complete
 }
 
+/// Lines and replies that are not of the words and texts handed on. What is said of these is not
+/// promised, but it is one text for every length of the output, and begins as the line says.
+fn compare_foreign(random: &mut Random) -> bool {
+    for _ in 0..FOREIGN {
+        let call = random.pick(&[Call::SayVerdict, Call::SayRefusal]);
+        let mut case = Case::new(call);
+        case.fill = random.draw();
+        case.frames = (0..random.below(9))
+            .map(|_| random::edge_word(random))
+            .collect();
+        let mut fields = random_fields(random);
+        if random.chance(700) {
+            (fields.kind, fields.frame) = (random.below(5) as u8, random.below(10) as u16);
+            (fields.begin, fields.commit) = (random.below(10) as u16, random.below(10) as u16);
+        }
+        case.text = match call {
+            Call::SayVerdict => fields.line().into_bytes(),
+            _ => (0..random.below(40))
+                .map(|_| random.pick(b"09AFg\n"))
+                .collect(),
+        };
+        case.reply = random.draw() & 0xFF_0000_000F;
+        case.source = random.below(6) as u32;
+        case.text_len = 4096;
+        let longest = case.run(&LIBRARY);
+        let whole = longest.reply as usize;
+        let said = &longest.text[MARGIN..][..whole.min(4096)];
+        let first = |said: &[u8]| said.split(|&byte| byte == b'\n').next().map(<[u8]>::to_vec);
+        let mut start = vec![0; whole];
+        say_line(&case.text, &mut start);
+        let told = call == Call::SayRefusal || fields.kind > 4 || first(said) == first(&start);
+        let sound = whole < 4096 && (whole == 0 || said.ends_with(b"\n")) && told;
+        case.text_len = random.below(whole + 2);
+        let mut expected = case.run(&NOTHING);
+        let count = whole.min(case.text_len);
+        expected.text[MARGIN..][..count].copy_from_slice(&said[..count]);
+        expected.reply = whole as u64;
+        let outcome = case.run(&LIBRARY);
+        if !sound || outcome != expected {
+            println!(
+                "NOT ONE TEXT for every length\n{case}\n{}\n{}",
+                longest.describe("library, 4,096 bytes"),
+                outcome.describe("library")
+            );
+            return false;
+        }
+    }
+    println!("words of other recordings: {FOREIGN} cases");
+    true
+}
+
 /// Prints the counts; false if something that can occur is absent.
 fn report(tally: &Tally, call: Call) -> bool {
     let (kinds, refusals) = (call.possible_kinds(), call.possible_refusals());
@@ -1573,6 +1869,8 @@ fn report(tally: &Tally, call: Call) -> bool {
         println!("  read or written: {written}, {back} of these come back");
         complete &= written > 0 && back == written;
         complete &= shown("refusals", refusals, &tally.refusals);
+    } else if call.says() {
+        println!("  said: {}", tally.kinds[0]);
     } else {
         complete &= shown("kinds   ", kinds, &tally.kinds);
         complete &= shown("refusals", refusals, &tally.refusals);
@@ -1613,6 +1911,8 @@ fn main() {
     furthest_displacements(&mut literals);
     written_texts(&mut literals);
     verdict_lines(&mut literals);
+    commit_places(&mut literals);
+    words_said(&mut literals);
     println!("literal cases: {}", literals.checked);
 
     println!("seed {seed}");
@@ -1636,6 +1936,7 @@ fn main() {
     complete &= print_edges([&edges]);
     complete &= compare_search(random);
     complete &= compare_furthest();
+    complete &= compare_foreign(random);
     if !complete {
         exit(1);
     }

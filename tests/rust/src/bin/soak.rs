@@ -8,19 +8,20 @@
 use std::process::exit;
 use std::time::{Duration, Instant};
 use trace_tests::adversarial::*;
-use trace_tests::case::{frames, text, Call, Case, CALLS};
+use trace_tests::case::{frames, text, Call, Case, CALLS, REFERENCE};
+use trace_tests::library::LIBRARY;
 use trace_tests::random::{
     close_blocks, damage_guards, damage_text, interleaved, text_of_words, Random,
 };
-use trace_tests::random_case::{exact_list, random_case, random_recording, random_right};
+use trace_tests::random_case::{
+    exact_list, random_case, random_recording, random_right, random_said_len,
+};
 use trace_tests::table::{
     occurs, print_edges, print_inner, print_moved, print_table, Answer, Tallies,
 };
-use trace_tests::{Fields, LINE_BYTES, MOST_FRAMES, VARIABLES};
-
-#[path = "../ffi.rs"]
-mod ffi;
-use ffi::LIBRARY;
+use trace_tests::{
+    declared, equal, guards, inferred, read, Fields, LINE_BYTES, MOST_FRAMES, VARIABLES,
+};
 
 const DEFAULT_SEED: u64 = 1;
 const DEFAULT_SECONDS: u64 = 60;
@@ -233,6 +234,35 @@ impl Soak {
     fn recording_text(&mut self, text: &[u8]) {
         self.text(Call::Check, text);
         self.text(Call::Read, text);
+        let reply = read(text, &mut [0; MOST_FRAMES]);
+        self.refusal(reply, text, &[]);
+    }
+
+    /// What is said, into an output about as long as need be.
+    fn say(&mut self, mut case: Case) {
+        let whole = case.run(&REFERENCE).reply as usize;
+        case.text_len = random_said_len(&mut self.random, whole);
+        self.take(case);
+    }
+
+    /// A reply of a call on a text or on words, in words.
+    fn refusal(&mut self, reply: u64, text: &[u8], words: &[u32]) {
+        let mut case = self.case(Call::SayRefusal, 0);
+        (case.text, case.frames) = (text.to_vec(), words.to_vec());
+        (case.reply, case.source) = (reply, self.random.below(6) as u32);
+        self.say(case);
+    }
+
+    /// The verdict on a recording, in words.
+    fn verdict(&mut self, call: Call, list: &[u8], words: &[u32]) {
+        let mut line = vec![0; LINE_BYTES];
+        match call {
+            Call::Declared => declared(list, words, &mut line),
+            _ => inferred(words, &mut [0; VARIABLES], &mut line),
+        };
+        let mut case = self.case(Call::SayVerdict, 0);
+        (case.text, case.frames) = (line, words.to_vec());
+        self.say(case);
     }
 
     /// The calls that take a guard list.
@@ -241,6 +271,8 @@ impl Soak {
         self.words(Call::Declared, list, words);
         self.words(Call::SerialDeclared, list, words);
         self.words(Call::MovesDeclared, list, words);
+        self.words(Call::CommitsDeclared, list, words);
+        self.refusal(guards(list), list, &[]);
     }
 
     /// Written from a place on into a text of a length.
@@ -253,6 +285,11 @@ impl Soak {
 
     fn verdict_line(&mut self, line: &[u8]) {
         self.text(Call::LineRead, line);
+        for call in [Call::SayLine, Call::SayVerdict] {
+            let mut case = self.case(call, 0);
+            case.text = line.to_vec();
+            self.say(case);
+        }
     }
 
     /// The fields written into lines about as long as need be, and their line read.
@@ -263,6 +300,11 @@ impl Soak {
             self.take(case);
         }
         self.verdict_line(fields.line().as_bytes());
+        for call in [Call::SayKind, Call::SayRefusalName] {
+            let mut case = self.case(call, 0);
+            case.fields = fields;
+            self.say(case);
+        }
     }
 
     /// The calls that take a recording.
@@ -275,10 +317,15 @@ impl Soak {
             Call::SerialInferred,
             Call::MovesDeclared,
             Call::MovesInferred,
+            Call::CommitsDeclared,
+            Call::CommitsInferred,
             Call::Write,
         ] {
             self.words(call, list, words);
         }
+        self.verdict(Call::Declared, list, words);
+        self.verdict(Call::Inferred, list, words);
+        self.refusal(equal(words, &[]), &[], words);
         let right = random_right(&mut self.random, words);
         self.pair(words, &right);
         self.pair(&pairs(2), words);
@@ -435,7 +482,8 @@ fn output_lengths(soak: &mut Soak) {
         }
         for words_len in near(count) {
             for words in &recordings {
-                for call in CALLS.into_iter().filter(|call| call.orders()) {
+                let listing = |call: &Call| call.orders() || call.commits();
+                for call in CALLS.into_iter().filter(listing) {
                     let mut case = soak.case(call, count);
                     (case.frames, case.words_len) = (words.clone(), words_len);
                     soak.take(case);
@@ -479,7 +527,7 @@ fn random_lengths(soak: &mut Soak) {
         let random = &mut soak.random;
         case.text = match call {
             Call::Check | Call::Read => text_of_words(&made.words),
-            Call::LineRead => random_line(random),
+            Call::LineRead | Call::SayLine | Call::SayVerdict => random_line(random),
             _ => exact_list(random, &made.guards),
         };
         if random.chance(200) {
@@ -491,7 +539,14 @@ fn random_lengths(soak: &mut Soak) {
         case.line_len = random.below(41);
         case.words_len = random.pick(&near(count));
         case.sets_len = random.pick(&near(VARIABLES));
-        soak.take(case);
+        if call.says() {
+            // The frames are not those of the line.
+            case.frames.clear();
+            case.reply = (random.between(2, 255) as u64) << 32;
+            soak.say(case);
+        } else {
+            soak.take(case);
+        }
     }
 }
 

@@ -2,13 +2,12 @@
 //! `trace_write` and `trace_line_read` of the archives against the plain Rust checker.
 //! Arguments: an optional number of rounds.
 
+use gambozuri::raw;
 use std::hint::black_box;
 use std::time::Instant;
+use trace_tests::library::line_read;
 use trace_tests::random::{close_blocks, recording, text_of_words, Plan, Random};
 use trace_tests::{plain, Fields, FieldsOut};
-
-#[path = "../ffi.rs"]
-mod ffi;
 
 const SEED: u64 = 7;
 const ROUNDS: usize = 101;
@@ -154,7 +153,7 @@ fn check_rows(rounds: usize) {
     let (mut line, mut plain_line) = ([0; 33], [0; 33]);
     for workload in workloads() {
         for text in &workload.texts {
-            assert_eq!(ffi::check(text, &mut line), workload.kind);
+            assert_eq!(raw::trace_check(text, &mut line), workload.kind);
             assert_eq!(plain::check(text, &mut plain_line), workload.kind);
             assert_eq!(line, plain_line);
         }
@@ -162,7 +161,7 @@ fn check_rows(rounds: usize) {
         let repeats = (ROUND_BYTES / bytes).max(1);
         let (library, rust) = medians(
             rounds,
-            || round(ffi::check, &workload.texts, repeats, &mut line),
+            || round(raw::trace_check, &workload.texts, repeats, &mut line),
             || round(plain::check, &workload.texts, repeats, &mut plain_line),
         );
         let ratio = library / rust;
@@ -217,31 +216,33 @@ const ROWS: [Row; 5] = [
     Row {
         name: "equality with the serial order",
         unprotected: false,
-        library: |words, serial, _| ffi::equal(words, serial),
+        library: |words, serial, _| raw::trace_equal(words, serial),
         rust: |words, serial, _| plain::equal(words, serial),
     },
     Row {
         name: "serial order, declared, empty list",
         unprotected: true,
-        library: |words, _, out| ffi::serial_declared(&[], words, room(&mut out.words, words)),
+        library: |words, _, out| {
+            raw::trace_serial_declared(&[], words, room(&mut out.words, words))
+        },
         rust: |words, _, out| plain::serial_declared(&[], words, room(&mut out.words, words)),
     },
     Row {
         name: "serial order, inferred",
         unprotected: false,
-        library: |words, _, out| ffi::serial_inferred(words, room(&mut out.words, words)),
+        library: |words, _, out| raw::trace_serial_inferred(words, room(&mut out.words, words)),
         rust: |words, _, out| plain::serial_inferred(words, room(&mut out.words, words)),
     },
     Row {
         name: "displacements, declared, empty list",
         unprotected: true,
-        library: |words, _, out| ffi::moves_declared(&[], words, room(&mut out.moves, words)),
+        library: |words, _, out| raw::trace_moves_declared(&[], words, room(&mut out.moves, words)),
         rust: |words, _, out| plain::moves_declared(&[], words, room(&mut out.moves, words)),
     },
     Row {
         name: "displacements, inferred",
         unprotected: false,
-        library: |words, _, out| ffi::moves_inferred(words, room(&mut out.moves, words)),
+        library: |words, _, out| raw::trace_moves_inferred(words, room(&mut out.moves, words)),
         rust: |words, _, out| plain::moves_inferred(words, room(&mut out.moves, words)),
     },
 ];
@@ -339,7 +340,7 @@ type ReadLine = fn(&[u8]) -> Option<Fields>;
 
 fn library_fields(line: &[u8]) -> Option<Fields> {
     let mut fields = Fields::default();
-    let reply = ffi::line_read(
+    let reply = line_read(
         line,
         FieldsOut {
             kind: &mut fields.kind,
@@ -401,7 +402,7 @@ fn text_rows(rounds: usize) {
     let recordings: Vec<Vec<u32>> = (0..DIFFERENT).map(|_| reducible(random, FRAMES)).collect();
     let (mut text, mut plain_text) = (vec![0; 9 * FRAMES], vec![0; 9 * FRAMES]);
     for words in &recordings {
-        assert_eq!(ffi::write(words, &mut text, 0), 9 * FRAMES as u64);
+        assert_eq!(raw::trace_write(words, &mut text, 0), 9 * FRAMES as u64);
         assert_eq!(plain::write(words, &mut plain_text, 0), 9 * FRAMES as u64);
         assert!(text == plain_text && text == text_of_words(words));
     }
@@ -409,7 +410,7 @@ fn text_rows(rounds: usize) {
         "writing 4,096 frames",
         medians(
             rounds,
-            || round_of_writes(ffi::write, &recordings, &mut text),
+            || round_of_writes(raw::trace_write, &recordings, &mut text),
             || round_of_writes(plain::write, &recordings, &mut plain_text),
         ),
     );

@@ -1,30 +1,33 @@
-//! Runs the program `tracetool` on files and compares all that it prints with the reference. Its
-//! lines must also be those of docs/TOOL.md, each picture must show what its recording has, and no
-//! file may change.
-//! Arguments: the path of the program, then an optional seed.
+//! Runs the program `tracetool` and compares what it prints on standard output and on standard error,
+//! and its exit status, with the reference. Its lines must also be those of docs/TOOL.md, each
+//! picture must show what its recording has, and no file may change.
+//! Arguments: the path of the program, then an optional seed; or `draw` and words of the tool behind
+//! it, of which the reference's picture is printed.
 
 use std::collections::{BTreeMap, BTreeSet};
 use std::ffi::{OsStr, OsString};
 use std::fs::{self, File, Permissions};
+use std::io::Write;
+use std::ops::Range;
 use std::os::unix::ffi::OsStrExt;
 use std::os::unix::fs::{symlink, PermissionsExt};
 use std::path::PathBuf;
-use std::process::{Command, ExitCode, Stdio};
-use std::time::{Duration, SystemTime};
+use std::process::{ChildStdin, Command, ExitCode, Stdio};
+use std::time::{Duration, Instant, SystemTime};
 use trace_tests::adversarial::{
     all_deep, all_locks, alternation, furthest, guard_lines, hold_walk, lock_walk, near_lines,
     nesting_walk, pairs, random_fields, random_line, word, ACQUIRE, BEGIN, EDGE_KINDS, EDGE_LOCKS,
-    EDGE_PLACES, END, RELEASE,
+    EDGE_PLACES, END, READ, RELEASE,
 };
 use trace_tests::case::{text, Call};
 use trace_tests::random::{damage_text, interleaved, text_of_words, Random};
 use trace_tests::random_case::{exact_list, random_case, random_list, random_recording};
-use trace_tests::words::{answer, GUARD_LIST, LEFT, RECORDING, RIGHT, TEXT};
+use trace_tests::words::{answer, Answer, GUARD_LIST, LEFT, RECORDING, RIGHT, TEXT};
 use trace_tests::{Fields, MOST_FRAMES, VARIABLES};
 
 #[path = "../document.rs"]
 mod document;
-use document::{fits, templates, uses, FILES};
+use document::{fits, templates, uses, SOURCES};
 
 const DEFAULT_SEED: u64 = 1;
 const RANDOM_RECORDINGS: usize = 200;
@@ -33,6 +36,12 @@ const RANDOM_LONG: usize = 30;
 const RANDOM_LINES: usize = 600;
 const RANDOM_FAULTS: usize = 300;
 const RANDOM_PICTURES: usize = 60;
+const RANDOM_WINDOWS: usize = 150;
+const RANDOM_SEVERAL: usize = 100;
+const RANDOM_LOGS: usize = 40;
+const FUZZED: usize = 3000;
+/// These runs are counted under no command.
+const FUZZ: &str = "random words and files";
 /// The length of the longest recording's text.
 const MOST_BYTES: usize = 9 * MOST_FRAMES;
 const COMMANDS: [&str; 8] = [
@@ -118,15 +127,18 @@ fn section(heading: &str) -> &'static str {
     found.expect("a section of the page")
 }
 
-/// The help and the version.
-fn help_texts() -> (String, String) {
-    let lines: Vec<&str> = section("help and version")
-        .lines()
-        .filter_map(|line| line.strip_prefix("    "))
-        .collect();
-    let (version, help) = lines.split_last().expect("the help and the version");
-    let text = |lines: &[&str]| lines.iter().map(|line| format!("{line}\n")).collect();
-    (text(help), text(&[version]))
+/// The help, the version and the help of each command.
+fn help_texts() -> (String, String, Vec<String>) {
+    let mut texts = vec![String::new()];
+    for line in section("help and version").lines() {
+        match line.strip_prefix("    ") {
+            Some(line) => *texts.last_mut().expect("a text") += &format!("{line}\n"),
+            None => texts.push(String::new()),
+        }
+    }
+    let mut texts = texts.into_iter().filter(|text| !text.is_empty());
+    let mut next = || texts.next().expect("a text");
+    (next(), next(), texts.collect())
 }
 
 /// The lines of the page's table of bytes: whether the file ends, and WHAT.
@@ -155,6 +167,8 @@ fn answer_lines() -> Vec<String> {
             None => lines.push(line.into()),
         }
     }
+    // A line is of the longest that it fits.
+    lines.sort_by_key(|line: &String| std::cmp::Reverse(line.len()));
     lines
 }
 
@@ -188,44 +202,49 @@ fn is_of(template: &str, line: &str) -> bool {
 /// Of a number that no refusal has.
 const NOT_GIVEN: &str = ", which this check does not give; ";
 
-/// What a run is counted as.
-fn label(printed: &str) -> String {
-    if let Some((comment, picture)) = parted(printed) {
+/// What a run is counted as, by what it says first.
+fn label(said: &str) -> String {
+    if let Some((comment, picture)) = parted(said) {
         let order = match picture.contains(">serial order<") {
             true => ", serial order",
             false => "",
         };
-        return format!("picture, {}{order}", label(comment));
+        let part = match picture.contains(" are drawn.</text>") {
+            true => ", in part",
+            false => "",
+        };
+        return format!("picture, {}{order}{part}", label(comment));
     }
-    let words: Vec<&str> = printed.split_whitespace().take(3).collect();
+    let words: Vec<&str> = said.split_whitespace().take(3).collect();
     match words[..] {
-        ["refused:", ..] if printed.contains(NOT_GIVEN) => "refusal above 21".into(),
+        ["refused:", ..] if said.contains(NOT_GIVEN) => "refusal above 21".into(),
         ["refused:", _, number] => {
-            let file = FILES.iter().find(|file| printed.contains(*file));
-            refusal_label(number.trim_end_matches(','), file.unwrap_or(&""))
+            let source = SOURCES.iter().find(|source| said.contains(*source));
+            refusal_label(number.trim_end_matches(','), source.unwrap_or(&""))
         }
         ["violation:", _, kind] => format!("kind {}", kind.trim_end_matches(',')),
         [first @ ("reducible:" | "error:"), ..] => first.trim_end_matches(':').into(),
-        ["equal" | "not", ..] => printed.trim_end().into(),
+        ["equal"] => "equal".into(),
+        ["not", "equal"] => "not equal".into(),
         ["usage:", ..] => "help".into(),
         ["tracetool", ..] => "version".into(),
-        [line] if line.len() == 32 => format!("kind {}", &line[..2]),
+        [line, ..] if line.len() == 32 => format!("kind {}", &line[..2]),
         _ => "written".into(),
     }
 }
 
-/// Some refusals name no file.
-fn refusal_label(number: &str, file: &str) -> String {
-    match file {
+/// Some refusals name no source.
+fn refusal_label(number: &str, source: &str) -> String {
+    match source {
         "" => format!("refusal {number}"),
-        _ => format!("refusal {number}, {file}"),
+        _ => format!("refusal {number}, {source}"),
     }
 }
 
 /// What must be seen of each command.
 fn required(command: &str) -> Vec<String> {
-    let refusals = |file: &str, numbers: &[usize]| -> Vec<String> {
-        let label = |number: &usize| refusal_label(&number.to_string(), file);
+    let refusals = |source: &str, numbers: &[usize]| -> Vec<String> {
+        let label = |number: &usize| refusal_label(&number.to_string(), source);
         numbers.iter().map(label).collect()
     };
     let sound: &[usize] = &[1, 2, 4, 5, 6, 7, 8, 9, 10, 20];
@@ -255,6 +274,11 @@ fn required(command: &str) -> Vec<String> {
                 "picture, kind 2",
                 "picture, kind 3",
                 "picture, kind 4",
+                "picture, reducible, serial order, in part",
+                "picture, reducible, in part",
+                "picture, kind 2, in part",
+                "picture, kind 3, in part",
+                "picture, kind 4, in part",
             ],
             of_files,
         ),
@@ -412,11 +436,11 @@ fn same<T: PartialEq + std::fmt::Debug>(what: &str, shown: T, expected: T) -> Do
     }
 }
 
-/// A bar's lane, its column there, its colour, and where it begins and ends below the first row's
-/// top.
-type Bar = (u32, usize, u32, usize, usize);
+/// A bar's lane, its column there, its colour, whether it is dashed, and where it begins and ends
+/// below the first row's top.
+type Bar = (u32, usize, u32, bool, usize, usize);
 
-/// The bars and diamonds of a picture, in rising order.
+/// The bars, diamonds and lines of a picture, in rising order.
 #[derive(Default, Debug, PartialEq)]
 struct Shapes {
     /// Of blocks, nested ones too; the columns are depths.
@@ -425,10 +449,12 @@ struct Shapes {
     holds: Vec<Bar>,
     /// Of blocks in the serial order, without a column.
     units: Vec<Bar>,
-    /// The lane and the place of each commit.
+    /// The lane and the row of each commit.
     commits: Vec<(u32, usize)>,
-    /// The place of the violation.
+    /// The row of the violation.
     marks: Vec<usize>,
+    /// Where the line from its commit begins and ends below the first row's top.
+    joins: Vec<(usize, usize)>,
 }
 
 impl Shapes {
@@ -441,21 +467,22 @@ impl Shapes {
     }
 }
 
-/// A block's bar, from its begin's row to its last row.
+/// From 2 below the top of the row of its begin to 2 above the bottom of that of its last frame.
 fn block_bar(thread: u32, depth: usize, begin: usize, last: usize) -> Bar {
-    (thread, depth, thread % 8, 18 * begin + 2, 18 * last + 16)
+    let (from, to) = (18 * begin + 2, 18 * last + 16);
+    (thread, depth, thread % 8, false, from, to)
 }
 
-/// The variables that a list names are guarded; without a list no access commits.
+/// The variables that a list names are guarded; without a list no access commits. The shapes are
+/// those of the whole recording, cut to the rows that are drawn.
 fn shapes_of(asked: &Asked) -> Shapes {
     let named = |list: &Vec<u8>| -> BTreeSet<u32> {
         let words = words_of(&String::from_utf8_lossy(list));
         words.iter().map(|word| word >> 16).collect()
     };
     let named = asked.list.as_ref().map(named);
-    let rows = asked.words.len();
+    let count = asked.words.len();
     let mut shapes = Shapes::default();
-    shapes.marks.extend(asked.violation);
     // The places where each lock was acquired and each thread's open blocks began.
     let mut acquires = vec![Vec::new(); 64];
     let mut begins = vec![Vec::new(); 32];
@@ -475,7 +502,8 @@ fn shapes_of(asked: &Asked) -> Shapes {
             }
             2 => {
                 let (_, from) = acquires[lock].pop().expect("held");
-                let bar = (thread, lock, object % 8, 18 * from + 9, 18 * place + 9);
+                let (from, to) = (18 * from + 9, 18 * place + 9);
+                let bar = (thread, lock, object % 8, false, from, to);
                 shapes.holds.push(bar);
                 true
             }
@@ -500,14 +528,18 @@ fn shapes_of(asked: &Asked) -> Shapes {
     }
     for (lock, acquires) in acquires.iter().enumerate() {
         if let Some(&(thread, from)) = acquires.first() {
-            let bar = (thread, lock, lock as u32 % 8, 18 * from + 9, 18 * rows);
-            shapes.holds.push(bar);
+            let (from, to) = (18 * from + 9, 18 * count);
+            shapes
+                .holds
+                .push((thread, lock, lock as u32 % 8, false, from, to));
         }
     }
     for (thread, begins) in (0..).zip(&begins) {
         for (depth, &begin) in begins.iter().enumerate() {
-            let bar = block_bar(thread, depth, begin, rows - 1);
-            shapes.blocks.push(bar);
+            let (from, to) = (18 * begin + 2, 18 * count);
+            shapes
+                .blocks
+                .push((thread, depth, thread % 8, true, from, to));
         }
     }
     let (order, _) = asked.order.clone().unwrap_or_default();
@@ -523,9 +555,35 @@ fn shapes_of(asked: &Asked) -> Shapes {
             _ => {}
         }
         if word >> 24 == 6 && depth == 0 {
-            let (_, _, colour, from, to) = block_bar(thread_of(word), 0, begin, place);
-            shapes.units.push((0, 0, colour, from, to));
+            let (_, _, colour, _, from, to) = block_bar(thread_of(word), 0, begin, place);
+            shapes.units.push((0, 0, colour, false, from, to));
         }
+    }
+    cut(shapes, asked)
+}
+
+/// What is left of shapes in the rows that are drawn, and in the lanes that there are.
+fn cut(mut shapes: Shapes, asked: &Asked) -> Shapes {
+    let rows = &asked.rows;
+    let lanes = asked.threads();
+    let within = |&(lane, column, colour, open, from, to): &Bar| {
+        let (from, to) = (asked.cut(from), asked.cut(to));
+        (from < to).then_some((lane, column, colour, open, from, to))
+    };
+    let cut = |bars: &[Bar]| -> Vec<Bar> {
+        let bars = bars.iter().filter_map(within);
+        bars.filter(|bar| lanes.contains(&bar.0)).collect()
+    };
+    (shapes.blocks, shapes.holds) = (cut(&shapes.blocks), cut(&shapes.holds));
+    shapes.units = shapes.units.iter().filter_map(within).collect();
+    shapes.commits.retain(|(_, place)| rows.contains(place));
+    for (_, place) in &mut shapes.commits {
+        *place -= rows.start;
+    }
+    if let Some(wrong) = asked.violation.filter(|wrong| rows.contains(wrong)) {
+        shapes.marks.push(wrong - rows.start);
+        let join = |commit| (asked.cut(18 * commit + 9), asked.cut(18 * wrong + 9));
+        shapes.joins.extend(asked.commit.map(join));
     }
     shapes.sorted()
 }
@@ -571,6 +629,12 @@ fn shapes_shown(elements: &[Element], top: usize) -> Result<Shapes, String> {
             let (x, y) = point(shape.unwrap_or(""), "M")?;
             shapes.commits.push((lane_at(x)?.1, row_at(y, 4)?));
         }
+        if element.is("path", "join") {
+            let ((x, from), (_, to)) = way(element)?;
+            lane_at(x)?;
+            let below = |y: usize| y.checked_sub(top).ok_or("a line above its rows");
+            shapes.joins.push((below(from)?, below(to)?));
+        }
         if element.name != "rect" || class.is_empty() {
             continue;
         }
@@ -586,19 +650,22 @@ fn shapes_shown(elements: &[Element], top: usize) -> Result<Shapes, String> {
                 .strip_prefix(start)
                 .and_then(|colour| colour.parse().ok())
         };
-        match (colour("k"), colour("block t"), element.get("width")) {
+        let open = class.contains("open");
+        let block = colour("block t").or(colour("block open t"));
+        match (colour("k"), block, element.get("width")) {
             (Some(colour), None, "6") => {
                 let lock = numbers.get(&(x + 3)).ok_or("a bar under no number")?;
-                shapes.holds.push((lane_at(x)?.1, *lock, colour, from, to));
+                let bar = (lane_at(x)?.1, *lock, colour, open, from, to);
+                shapes.holds.push(bar);
             }
             (None, Some(colour), "8") => {
                 let (start, thread) = lane_at(x)?;
-                let left = start + 12 * numbers.range(start..x).count();
+                let left = start + 16 * numbers.range(start..x).count();
                 let right = x.checked_sub(left).filter(|right| right % 12 == 0);
                 let depth = right.ok_or("a block's bar off its column")? / 12;
-                shapes.blocks.push((thread, depth, colour, from, to));
+                shapes.blocks.push((thread, depth, colour, open, from, to));
             }
-            (None, Some(colour), "6") => shapes.units.push((0, 0, colour, from, to)),
+            (None, Some(colour), "6") => shapes.units.push((0, 0, colour, open, from, to)),
             _ => return Err(format!("a bar of class {class}")),
         }
     }
@@ -626,39 +693,150 @@ fn words_of(text: &str) -> Vec<u32> {
     text.lines().map(word).collect()
 }
 
-/// What the tool is asked for by the same words with another command.
+/// What the tool is asked for by the same files with another command.
 struct Asked {
     words: Vec<u32>,
     list: Option<Vec<u8>>,
     explained: String,
     violation: Option<usize>,
+    /// That of the violation's block.
+    commit: Option<usize>,
     /// The serial order and the displacements, where there are any.
     order: Option<(Vec<u32>, Vec<i32>)>,
+    /// Why there is no order.
+    unordered: String,
+    /// The places that are drawn.
+    rows: Range<usize>,
 }
 
-fn asked<W: AsRef<[u8]>>(words: &[W]) -> Asked {
-    let of = |command: &str| {
-        let operands = words[1..].iter().map(|word| word.as_ref());
-        let words: Vec<&[u8]> = [command.as_bytes()].into_iter().chain(operands).collect();
-        String::from_utf8(reference(&words)).expect("text")
+impl Asked {
+    /// The threads that have a lane.
+    fn threads(&self) -> BTreeSet<u32> {
+        let rows = &self.words[self.rows.clone()];
+        rows.iter().map(|&word| thread_of(word)).collect()
+    }
+
+    /// A height below the whole recording's top, as one below the top of the rows that are drawn.
+    fn cut(&self, below: usize) -> usize {
+        let below = below.saturating_sub(18 * self.rows.start);
+        below.min(18 * self.rows.len())
+    }
+}
+
+/// Whether the words of a picture are a recording, and then options each with its word.
+fn plainly_said<W: AsRef<[u8]>>(words: &[W]) -> bool {
+    let named = |word: &W| !word.as_ref().starts_with(b"-");
+    let option = |pair: &[W]| {
+        let options: [&[u8]; 3] = [b"--guards", b"--from", b"--to"];
+        options.contains(&pair[0].as_ref()) && pair.get(1).is_some_and(named)
     };
-    let content = |word: &W| read(word.as_ref()).expect("a file");
-    let verdict = of("verdict");
-    let place = usize::from_str_radix(&verdict[2..6], 16).expect("a place");
-    let (serial, moves) = (of("serial"), of("moves"));
+    words.get(1).is_some_and(named) && words[2..].chunks(2).all(option)
+}
+
+/// Of words that are plainly said.
+fn asked<W: AsRef<[u8]>>(words: &[W]) -> Asked {
+    let options = || {
+        words[2..]
+            .chunks(2)
+            .map(|pair| (pair[0].as_ref(), pair[1].as_ref()))
+    };
+    let option = |name: &[u8]| options().find(|pair| pair.0 == name).map(|pair| pair.1);
+    let recording = words[1].as_ref();
+    let list = option(b"--guards");
+    let of = |command: &str| {
+        let guards = list.map_or(vec![], |list| vec![&b"--guards"[..], list]);
+        let words = [&[command.as_bytes(), recording][..], &guards].concat();
+        let answer = reference(&words, &Input::Nothing);
+        [answer.out, answer.err].map(|text| String::from_utf8_lossy(&text).into_owned())
+    };
+    let content = |name: &[u8]| read(name).expect("a file");
+    let [verdict, _] = of("verdict");
+    let field = |digits| {
+        let field = &verdict[digits];
+        usize::from_str_radix(field, 16).expect("a place")
+    };
+    let violation = (&verdict[..2] != "00").then(|| field(2..6));
+    let ([serial, unordered], [moves, _]) = (of("serial"), of("moves"));
     let displacement = |line: &str| {
         let (by, _) = line.split_once(' ').expect("two words");
         by.parse().expect("a displacement")
     };
-    let order = (!serial.starts_with("refused"))
-        .then(|| (words_of(&serial), moves.lines().map(displacement).collect()));
+    let order = || (words_of(&serial), moves.lines().map(displacement).collect());
+    let words = words_of(&String::from_utf8_lossy(&content(recording)));
+    let number = |name| {
+        let number = option(name).map(|word| String::from_utf8_lossy(word).parse());
+        number.map(|number| number.expect("a number"))
+    };
+    let (from, to): (Option<usize>, Option<usize>) = (number(b"--from"), number(b"--to"));
+    let rows = match violation {
+        Some(wrong) if from.or(to).is_none() && words.len() > 400 => {
+            (wrong.max(199) - 199)..words.len().min(wrong + 201)
+        }
+        _ => from.map_or(0, |from| from - 1)..to.map_or(words.len(), |to| to.min(words.len())),
+    };
     Asked {
-        words: words_of(&String::from_utf8_lossy(&content(&words[1]))),
-        list: words.get(3).map(content),
-        explained: of("explain"),
-        violation: (&verdict[..2] != "00").then_some(place),
-        order,
+        list: list.map(content),
+        explained: of("explain")[0].clone(),
+        violation,
+        commit: violation.and(Some(field(12..16)).filter(|&commit| commit != 0xFFFF)),
+        order: unordered.is_empty().then(order),
+        unordered,
+        words,
+        rows,
     }
+}
+
+/// The lines at the top of a picture, each with its class.
+fn head_of(asked: &Asked) -> Vec<String> {
+    let classes = match asked.violation {
+        Some(_) => ["wrong", "why"],
+        None => ["head", "head"],
+    };
+    let lines = asked.explained.lines().enumerate();
+    let mut head: Vec<String> = lines
+        .map(|(line, text)| format!("{} {text}", classes[line.min(1)]))
+        .collect();
+    let mut note = |text: String| head.push(format!("note {text}"));
+    if asked.violation.is_some() {
+        note("No serial order: the recording is not reducible.".into());
+    } else if let Some((_, block)) = asked.unordered.split_once("number 14, ") {
+        let block = block.replace(" of the recording", "");
+        let block = block.replace("; add its end.\n", ".");
+        note(format!("No serial order: {block}"));
+    }
+    let (from, to, count) = (asked.rows.start + 1, asked.rows.end, asked.words.len());
+    if asked.rows.len() != count {
+        note(format!("Lines {from} to {to} of {count} are drawn."));
+    }
+    head
+}
+
+/// The parts of the key, by the shapes and arrows that there are.
+fn key_of(asked: &Asked, shapes: &Shapes) -> String {
+    let (rows, place) = (&asked.rows, 0..);
+    let (_, moves) = asked.order.clone().unwrap_or_default();
+    let mut moves = place.zip(moves);
+    let drawn = |&place: &i32| (rows.start as i32..rows.end as i32).contains(&place);
+    let arrow = moves.any(|(place, by)| by != 0 && (drawn(&place) || drawn(&(place + by))));
+    let late = |wrong: usize| rows.end > rows.start && rows.end - 1 > wrong;
+    let parts = [
+        (!shapes.blocks.is_empty(), "wide bar: atomic block"),
+        (
+            shapes.blocks.iter().any(|bar| bar.3),
+            "dashed bar: open at the end",
+        ),
+        (!shapes.commits.is_empty(), "diamond: its commit"),
+        (!shapes.holds.is_empty(), "thin bar: lock held"),
+        (!shapes.marks.is_empty(), "red box: the violation"),
+        (!shapes.joins.is_empty(), "dashed line: from its commit"),
+        (
+            asked.violation.is_some_and(late),
+            "grey: behind the violation",
+        ),
+        (arrow, "arrow: to its place in the serial order"),
+    ];
+    let parts = parts.iter().filter(|part| part.0).map(|part| part.1);
+    parts.collect::<Vec<_>>().join("; ")
 }
 
 /// Looks at a picture's elements: they are those that the recording, its verdict and its serial
@@ -673,27 +851,28 @@ fn check_picture<W: AsRef<[u8]>>(words: &[W], printed: &str) -> Done {
     )?;
     let elements = elements(printed)?;
     within(&elements)?;
-    let classes = match asked.violation {
-        Some(_) => ["wrong", "why"],
-        None => ["head", "head"],
-    };
+    let title = elements.iter().filter(|element| element.name == "title");
+    let title: Vec<&str> = title.map(|title| title.text).collect();
+    same(
+        "the title",
+        title,
+        asked.explained.lines().take(1).collect(),
+    )?;
     let sentences = elements
         .iter()
         .filter(|text| text.name == "text" && text.get("x") == "8" && text.class() != "key");
     let sentences = sentences.map(|text| format!("{} {}", text.class(), text.text));
-    let lines = asked.explained.lines().enumerate();
-    let lines = lines.map(|(line, text)| format!("{} {text}", classes[line.min(1)]));
-    same::<Vec<String>>("the sentences", sentences.collect(), lines.collect())?;
+    same::<Vec<String>>("the sentences", sentences.collect(), head_of(&asked))?;
 
-    let rows = rows(&elements, asked.words.len())?;
+    let rows = rows(&elements, &asked.rows)?;
     let top = rows.first().map_or(0, |row| row - 13);
-    same(
-        "the shapes",
-        shapes_shown(&elements, top)?,
-        shapes_of(&asked),
-    )?;
+    let shapes = shapes_of(&asked);
+    let key = elements.iter().filter(|text| text.is("text", "key"));
+    let key: Vec<&str> = key.map(|key| key.text).collect();
+    same("the key", key.concat(), key_of(&asked, &shapes))?;
+    same("the shapes", shapes_shown(&elements, top)?, shapes)?;
     check_labels(&elements, &asked, &rows)?;
-    check_order(&elements, &asked, &rows)
+    check_order(&elements, &asked, top)
 }
 
 /// Nothing stands outside the picture.
@@ -712,7 +891,7 @@ fn within(elements: &[Element]) -> Done {
             ("rect", "") => {
                 element.number("width")? == width && element.number("height")? == height
             }
-            ("style" | "defs" | "marker", "") | ("path", "") => true,
+            ("title" | "style" | "defs" | "marker", "") | ("path", "") => true,
             ("rect", _) => inside(
                 element.number("x")? + element.number("width")?,
                 element.number("y")? + element.number("height")?,
@@ -754,15 +933,17 @@ fn way(element: &Element) -> Result<(Point, Point), String> {
     Ok((point(from, "M")?, point(to, "L")?))
 }
 
-/// The baselines of the rows: one for each frame, from top to bottom.
-fn rows(elements: &[Element], count: usize) -> Result<Vec<usize>, String> {
+/// The baselines of the rows: one for each frame that is drawn, from top to bottom.
+fn rows(elements: &[Element], drawn: &Range<usize>) -> Result<Vec<usize>, String> {
     let lines = elements.iter().filter(|text| text.is("text", "line"));
     let (mut rows, mut numbers) = (Vec::new(), Vec::new());
     for line in lines {
         rows.push(line.number("y")?);
         numbers.push(line.text.to_string());
     }
-    let expected = (0..count).map(|place| format!("{} [{place}]", place + 1));
+    let expected = drawn
+        .clone()
+        .map(|place| format!("{} [{place}]", place + 1));
     same("the numbers of lines", numbers, expected.collect())?;
     match rows.windows(2).all(|pair| pair[1] == pair[0] + 18) {
         true => Ok(rows),
@@ -774,7 +955,7 @@ fn rows(elements: &[Element], count: usize) -> Result<Vec<usize>, String> {
 fn check_labels(elements: &[Element], asked: &Asked, rows: &[usize]) -> Done {
     let texts = || elements.iter().filter(|element| element.name == "text");
     let lanes = lanes_of(elements)?;
-    let threads: BTreeSet<u32> = asked.words.iter().map(|&word| thread_of(word)).collect();
+    let threads = asked.threads();
     let shown: Vec<u32> = lanes.iter().map(|lane| lane.1).collect();
     same("the lanes", shown, threads.into_iter().collect())?;
     let mut labels = Vec::new();
@@ -793,64 +974,63 @@ fn check_labels(elements: &[Element], asked: &Asked, rows: &[usize]) -> Done {
         }
     }
     labels.sort_unstable();
-    let expected = |(place, &word): (usize, &u32)| {
+    let expected = |(&row, place): (&usize, usize)| {
+        let word = asked.words[place];
         let class = match asked.violation {
             Some(wrong) if place == wrong => "wrong",
             Some(wrong) if place > wrong => "late",
             _ => "frame",
         };
-        (rows[place], class, Some(thread_of(word)), label_of(word))
+        (row, class, Some(thread_of(word)), label_of(word))
     };
-    let expected = asked.words.iter().enumerate().map(expected);
+    let expected = rows.iter().zip(asked.rows.clone()).map(expected);
     same("the labels", labels, expected.collect())
 }
 
-/// The arrows go as far as the displacements say, and what they lead to is the serial order.
-fn check_order(elements: &[Element], asked: &Asked, rows: &[usize]) -> Done {
-    let arrows = elements.iter().filter(|path| {
-        path.name == "path" && (path.class() == "stay" || path.class().starts_with("move t"))
-    });
-    let mut moves = Vec::new();
-    for (place, arrow) in arrows.enumerate() {
-        let ((_, y1), (_, y2)) = way(arrow)?;
-        let by = (y2 as i32 - y1 as i32) / 18;
-        let headed = arrow.get("marker-end") == "url(#to)";
-        let row = rows.get(place).map_or(0, |row| row - 4);
-        same(
-            "an arrow's start",
-            (y1, headed),
-            (row, arrow.class() != "stay"),
-        )?;
-        same("an arrow's end", y1 as i32 + 18 * by, y2 as i32)?;
-        same("an arrow's kind", headed, by != 0)?;
-        moves.push(by);
+/// The arrows go as far as the displacements say, or to the edge of the rows, and what they lead to
+/// is the serial order.
+fn check_order(elements: &[Element], asked: &Asked, top: usize) -> Done {
+    let (order, moves) = asked.order.clone().unwrap_or_default();
+    let (mut arrows, mut labels) = (Vec::new(), Vec::new());
+    for (place, (&word, by)) in asked.words.iter().zip(moves).enumerate() {
+        let to = (place as i32 + by) as usize;
+        same("the word in the order", order.get(to), Some(&word))?;
+        let lands = asked.rows.contains(&to);
+        let ends = [place, to].map(|place| top + asked.cut(18 * place + 9));
+        let thread = thread_of(word);
+        let (class, moved) = match by {
+            0 => ("stay".into(), String::new()),
+            _ => (format!("move t{}", thread % 8), format!(" ({by:+})")),
+        };
+        if lands || asked.rows.contains(&place) {
+            arrows.push((ends, class, lands && by != 0));
+        }
+        if lands {
+            let y = top + 18 * (to - asked.rows.start) + 13;
+            labels.push((y, format!("thread {thread}: {}{moved}", label_of(word))));
+        }
     }
-    let mut order = Vec::new();
-    let mut said = Vec::new();
-    let labels = elements.iter().filter(|text| text.is("text", "frame"));
-    for label in labels.filter(|text| text.text.starts_with("thread ")) {
-        let text = label.text.split(" (").next().unwrap_or("");
-        order.push((label.number("y")?, text.to_string()));
-        said.push(label.text.to_string());
+    let (mut arrows_shown, mut labels_shown) = (Vec::new(), Vec::new());
+    for element in elements {
+        let class = element.class();
+        if element.name == "path" && (class == "stay" || class.starts_with("move ")) {
+            let ((_, from), (_, to)) = way(element)?;
+            let headed = element.get("marker-end") == "url(#to)";
+            arrows_shown.push(([from, to], class.to_string(), headed));
+        }
+        if element.is("text", "frame") && element.text.starts_with("thread ") {
+            labels_shown.push((element.number("y")?, element.text.to_string()));
+        }
     }
-    order.sort();
-    let (words, expected) = asked.order.clone().unwrap_or_default();
-    let name = |word: u32| format!("thread {}: {}", thread_of(word), label_of(word));
-    let by = |by: i32| match by {
-        0 => String::new(),
-        _ => format!(" ({by:+})"),
-    };
-    let named = rows
-        .iter()
-        .zip(&words)
-        .map(|(&row, &word)| (row, name(word)));
-    same("the serial order", order, named.collect())?;
-    let frames = asked.words.iter().zip(&expected);
-    let labels = frames
-        .map(|(&word, &moved)| name(word) + &by(moved))
-        .collect();
-    same("the order's labels", said, labels)?;
-    same("the displacements", moves, expected)
+    same("the arrows", arrows_shown, arrows)?;
+    same("the order's labels", labels_shown, labels)?;
+    let titles = elements.iter().filter(|text| text.is("text", "head"));
+    let titles = titles.filter(|text| text.text == "serial order").count();
+    same(
+        "the order's title",
+        titles,
+        usize::from(asked.order.is_some()),
+    )
 }
 
 // Runs.
@@ -865,6 +1045,56 @@ struct Tool {
     exempt: Option<String>,
 }
 
+/// What stands on standard input.
+enum Input {
+    Nothing,
+    Pipe(Vec<u8>),
+    File(Vec<u8>),
+    /// A folder is opened in its place.
+    Folder,
+    Closed,
+    /// A pipe that gives these bytes over and over.
+    Endless(Vec<u8>),
+}
+
+impl Input {
+    /// All of it, or as much as may be looked at; else the number of the error.
+    fn content(&self) -> Result<Vec<u8>, i32> {
+        match self {
+            Input::Nothing => Ok(Vec::new()),
+            Input::Pipe(bytes) | Input::File(bytes) => Ok(bytes.clone()),
+            Input::Folder => Err(21),
+            Input::Closed => Err(9),
+            Input::Endless(bytes) => Ok(bytes.repeat(2 * MOST_BYTES / bytes.len())),
+        }
+    }
+
+    /// The bytes that go through a pipe, and whether they do so without an end.
+    fn piped(&self) -> Option<(Vec<u8>, bool)> {
+        match self {
+            Input::Pipe(bytes) => Some((bytes.clone(), false)),
+            Input::Endless(bytes) => Some((bytes.repeat(1000), true)),
+            _ => None,
+        }
+    }
+}
+
+/// So many bytes may be taken from a pipe without an end: those that are read, and what the pipe
+/// itself holds.
+const MOST_TAKEN: usize = 1 << 20;
+
+/// The number of bytes that were taken.
+fn feed(mut pipe: ChildStdin, bytes: &[u8], endless: bool) -> usize {
+    let mut taken = 0;
+    while pipe.write_all(bytes).is_ok() {
+        taken += bytes.len();
+        if !endless || taken > MOST_TAKEN {
+            break;
+        }
+    }
+    taken
+}
+
 fn shown<W: AsRef<[u8]>>(words: &[W]) -> String {
     let quoted = words
         .iter()
@@ -872,79 +1102,210 @@ fn shown<W: AsRef<[u8]>>(words: &[W]) -> String {
     format!("tracetool{}", quoted.collect::<String>())
 }
 
-fn reference<W: AsRef<[u8]>>(words: &[W]) -> Vec<u8> {
+fn shown_answer(answer: &Answer) -> String {
+    let (out, err) = (answer.out.escape_ascii(), answer.err.escape_ascii());
+    format!("status {}, \"{out}\", \"{err}\"", answer.status)
+}
+
+fn reference<W: AsRef<[u8]>>(words: &[W], input: &Input) -> Answer {
     let words: Vec<&[u8]> = words.iter().map(|word| word.as_ref()).collect();
-    answer(&words, &read)
+    answer(&words, &|name| match name {
+        b"-" => input.content(),
+        _ => read(name),
+    })
+}
+
+/// Commands whose refusals stand on standard error.
+fn writes(command: &str) -> bool {
+    matches!(command, "serial" | "moves" | "draw")
+}
+
+/// The answer with this text, by the rule of docs/TOOL.md: where it stands, and the status.
+fn literal(command: &str, text: &str) -> Answer {
+    let bare = text.split_once("refused: ").map_or(text, |_| "refused: ");
+    let kind = text.get(..2).filter(|_| text.trim_end().len() == 32);
+    let status = match (bare, kind) {
+        _ if text.starts_with("error: ") => 3,
+        ("refused: ", _) => 2,
+        (_, Some("00")) => 0,
+        (_, Some("01" | "02" | "03" | "04")) => 1,
+        (_, Some(_)) if command == "verdict" => 2,
+        _ if text.starts_with("violation: ") || text == "not equal\n" => 1,
+        _ => 0,
+    };
+    let (text, nothing) = (text.as_bytes().to_vec(), Vec::new());
+    let (out, err) = match status == 3 || status == 2 && writes(command) {
+        true => (nothing, text),
+        false => (text, nothing),
+    };
+    Answer { out, err, status }
+}
+
+/// A refusal about a file, as this command tells it.
+fn told(command: &str, file: &str, place: usize, text: &str) -> String {
+    match command {
+        "explain" => text.into(),
+        _ => format!("{file}:{}: {text}", place + 1),
+    }
+}
+
+/// A line without the `FILE:LINE: ` or `FILE: ` that names one of the words.
+fn bare<'a, W: AsRef<[u8]>>(words: &[W], line: &'a str) -> &'a str {
+    let behind = |name: &str| {
+        let rest = line.strip_prefix(name)?;
+        let number = rest.strip_prefix(':').unwrap_or(rest);
+        let number = number.trim_start_matches(|digit: char| digit.is_ascii_digit());
+        number.strip_prefix(": ").or(rest.strip_prefix(": "))
+    };
+    let rest = |word: &W| {
+        let word = String::from_utf8_lossy(word.as_ref()).into_owned();
+        behind(&word).or_else(|| behind(word.strip_prefix("--guards=")?))
+    };
+    words.iter().skip(1).find_map(rest).unwrap_or(line)
 }
 
 impl Tool {
-    /// All that the program prints.
-    fn run<W: AsRef<[u8]>>(&self, words: &[W]) -> Result<Vec<u8>, String> {
+    /// What the program answers. It ends by itself, changes no file, and says an error exactly where
+    /// the status is that of one.
+    fn run<W: AsRef<[u8]>>(&self, words: &[W], input: &Input) -> Result<Answer, String> {
+        if let Input::File(bytes) = input {
+            write("input", bytes)?;
+        }
         let before = entries()?;
         let arguments = words.iter().map(|word| OsStr::from_bytes(word.as_ref()));
-        let mut command = Command::new(&self.program);
-        let output = command.args(arguments).stdin(Stdio::null()).output();
-        let output = context(output, "running the program")?;
-        if !output.stderr.is_empty() || !output.status.success() {
+        let mut command = Command::new("sh");
+        match input {
+            Input::Closed => command
+                .args(["-c", "exec \"$0\" \"$@\" <&-"])
+                .arg(&self.program),
+            _ => {
+                command = Command::new(&self.program);
+                &mut command
+            }
+        };
+        command.args(arguments).stdin(match input {
+            Input::Pipe(_) | Input::Endless(_) => Stdio::piped(),
+            Input::File(_) => context(File::open("input"), "opening the input")?.into(),
+            Input::Folder => context(File::open("."), "opening a folder")?.into(),
+            Input::Nothing | Input::Closed => Stdio::null(),
+        });
+        command.stdout(Stdio::piped()).stderr(Stdio::piped());
+        let mut child = context(command.spawn(), "running the program")?;
+        let pipe = child.stdin.take().zip(input.piped());
+        let fed = pipe.map(|(pipe, (bytes, endless))| {
+            std::thread::spawn(move || feed(pipe, &bytes, endless))
+        });
+        let output = context(child.wait_with_output(), "running the program")?;
+        let wrong = |what: &str| {
             let (status, error) = (output.status, output.stderr.escape_ascii());
-            return Err(format!(
-                "{}: {status}, standard error \"{error}\"",
-                shown(words)
-            ));
+            format!("{}: {what}; {status}, \"{error}\"", shown(words))
+        };
+        if let (Some(fed), Input::Endless(_)) = (fed, input) {
+            if fed.join().expect("a writer") > MOST_TAKEN {
+                return Err(wrong("it read on and on"));
+            }
+        }
+        let Some(status @ 0..=3) = output.status.code() else {
+            return Err(wrong("no status from 0 to 3"));
+        };
+        if String::from_utf8_lossy(&output.stderr).contains("panicked") {
+            return Err(wrong("a panic"));
+        }
+        let mut lines = output.stderr.split(|&byte| byte == b'\n');
+        if lines.any(|line| line.starts_with(b"error:")) != (status == 3) {
+            return Err(wrong("status 3 without an error, or an error without it"));
         }
         if entries()? != before {
-            return Err(format!("{}: a file changed", shown(words)));
+            return Err(wrong("a file changed"));
         }
-        Ok(output.stdout)
+        Ok(Answer {
+            out: output.stdout,
+            err: output.stderr,
+            status,
+        })
     }
 
-    /// One of these answers.
-    fn expect_one<W: AsRef<[u8]>>(&mut self, words: &[W], expected: &[Vec<u8>]) -> Done {
-        let printed = self.run(words)?;
-        if !expected.contains(&printed) {
-            let mut report = shown(words);
-            for text in expected {
-                report += &format!("\n  expected \"{}\"", text.escape_ascii());
-            }
+    fn expect_answer<W: AsRef<[u8]>>(
+        &mut self,
+        words: &[W],
+        input: &Input,
+        expected: &Answer,
+    ) -> Done {
+        let answer = self.run(words, input)?;
+        if answer != *expected {
             return Err(format!(
-                "{report}\n  printed  \"{}\"",
-                printed.escape_ascii()
+                "{}\n  expected {}\n  answered {}",
+                shown(words),
+                shown_answer(expected),
+                shown_answer(&answer)
             ));
         }
-        let command = words.first().map_or(&b"help"[..], |word| word.as_ref());
-        let command = String::from_utf8_lossy(command).into_owned();
-        let printed = String::from_utf8_lossy(&printed);
-        if parted(&printed).is_some() {
+        let printed = String::from_utf8_lossy(&answer.out);
+        if parted(&printed).is_some() && plainly_said(words) {
             let wrong = |reason| format!("{}: {reason}\n{printed}", shown(words));
             check_picture(words, &printed).map_err(wrong)?;
         }
-        self.count(command, &printed)
+        self.count(words, &answer)
     }
 
     /// The reference's answer.
     fn expect<W: AsRef<[u8]>>(&mut self, words: &[W]) -> Done {
-        self.expect_one(words, &[reference(words)])
+        self.expect_input(words, &Input::Nothing)
+    }
+
+    fn expect_input<W: AsRef<[u8]>>(&mut self, words: &[W], input: &Input) -> Done {
+        self.expect_answer(words, input, &reference(words, input))
     }
 
     /// This answer, which must be the reference's too.
     fn expect_text<W: AsRef<[u8]>>(&mut self, words: &[W], text: &str) -> Done {
-        let reference = reference(words);
-        if reference != text.as_bytes() {
-            let reference = reference.escape_ascii();
-            return Err(format!(
-                "{}: the reference has \"{reference}\"",
-                shown(words)
-            ));
-        }
-        self.expect_one(words, &[reference])
+        let command = words.first().map_or(&b"help"[..], |word| word.as_ref());
+        let answer = literal(&String::from_utf8_lossy(command), text);
+        self.expect_both(words, &Input::Nothing, &answer)
     }
 
-    fn count(&mut self, command: String, printed: &str) -> Done {
-        *self.counts.entry((command, label(printed))).or_default() += 1;
-        let printed = parted(printed).map_or(printed, |(comment, _)| comment);
-        // Verdict lines, serial orders and displacements, of which the document has an example.
-        let listed = printed.starts_with(|first: char| first.is_ascii_digit() || first == '+');
-        for line in printed.lines() {
+    fn expect_both<W: AsRef<[u8]>>(&mut self, words: &[W], input: &Input, answer: &Answer) -> Done {
+        let reference = reference(words, input);
+        if reference != *answer {
+            return Err(format!(
+                "{}\n  expected {}\n  the reference has {}",
+                shown(words),
+                shown_answer(answer),
+                shown_answer(&reference)
+            ));
+        }
+        self.expect_answer(words, input, answer)
+    }
+
+    /// Out, err and status.
+    fn expect_all<W: AsRef<[u8]>>(
+        &mut self,
+        words: &[W],
+        input: &Input,
+        (out, err, status): (&str, &str, i32),
+    ) -> Done {
+        let (out, err) = (out.as_bytes().to_vec(), err.as_bytes().to_vec());
+        self.expect_both(words, input, &Answer { out, err, status })
+    }
+
+    fn count<W: AsRef<[u8]>>(&mut self, words: &[W], answer: &Answer) -> Done {
+        let command = words.first().map_or(&b"help"[..], |word| word.as_ref());
+        let command = String::from_utf8_lossy(command).into_owned();
+        let printed = String::from_utf8_lossy(&answer.out);
+        let complained = String::from_utf8_lossy(&answer.err);
+        let first = if printed.is_empty() {
+            &complained
+        } else {
+            &printed
+        };
+        let label = label(bare(words, first));
+        *self.counts.entry((command, label)).or_default() += 1;
+        let printed = parted(&printed).map_or(&printed[..], |(comment, _)| comment);
+        for line in printed.lines().chain(complained.lines()) {
+            let line = bare(words, line);
+            // Verdict lines, serial orders and displacements, of which the document has an example.
+            let listed = line.trim_start_matches(['+', '-']);
+            let listed = listed.starts_with(|first: char| first.is_ascii_digit());
             let mut known = self.lines.iter_mut();
             match known.find(|(template, _)| template == line || !listed && is_of(template, line)) {
                 Some((_, count)) => *count += 1,
@@ -1068,14 +1429,14 @@ const LITERALS: [(&str, &str, Option<&str>, &str); 40] = [
         "serial",
         "05000000",
         None,
-        "refused: number 14, the block that begins at line 1 [0] of the recording is open at the \
+        "recording:1: refused: number 14, the block that begins at line 1 [0] of the recording is open at the \
          end; add its end.\n",
     ),
     (
         "serial",
         A,
         None,
-        "refused: number 13, the recording is not reducible, so there is no serial order; \
+        "recording:5: refused: number 13, the recording is not reducible, so there is no serial order; \
          line 5 [4] goes wrong, and explain says why.\n",
     ),
     ("moves", "", None, ""),
@@ -1096,14 +1457,14 @@ const LITERALS: [(&str, &str, Option<&str>, &str); 40] = [
         "moves",
         "05000000",
         None,
-        "refused: number 14, the block that begins at line 1 [0] of the recording is open at the \
+        "recording:1: refused: number 14, the block that begins at line 1 [0] of the recording is open at the \
          end; add its end.\n",
     ),
     (
         "moves",
         E,
         Some(""),
-        "refused: number 13, the recording is not reducible, so there is no serial order; \
+        "recording:3: refused: number 13, the recording is not reducible, so there is no serial order; \
          line 3 [2] goes wrong, and explain says why.\n",
     ),
     (
@@ -1231,13 +1592,13 @@ const LITERAL_PAIRS: [(&str, &str, &str); 10] = [
     (
         "05000000 07000000",
         "x",
-        "refused: number 4, line 2 [1] of the left recording has an operation other than 01 to \
+        "left:2: refused: number 4, line 2 [1] of the left recording has an operation other than 01 to \
          06; mend its digits 1 and 2.\n",
     ),
     (
         FIFTEEN,
         SIXTEEN,
-        "refused: number 20, line 16 [15] of the right recording, acquire of lock 3 by thread 0, \
+        "right:16: refused: number 20, line 16 [15] of the right recording, acquire of lock 3 by thread 0, \
          takes a lock that this thread holds 15 times already; hold it at most 15 times.\n",
     ),
 ];
@@ -1470,16 +1831,18 @@ const NO_LINE: &str = "refused: number 18, this is no verdict line: that has 32 
                        written.\n";
 
 /// Words that are no verdict line. One of them is the name of a file.
-const NO_LINES: [&str; 16] = [
+const NO_LINES: [&str; 18] = [
     "",
     " ",
     "0",
     "recording",
-    "--guards",
     "line",
+    "\n",
     "0000000000000000000000000000000",
     "000000000000000000000000000000000",
-    "00000000FFFFFFFF0000000000000000\n",
+    "00000000FFFFFFFF0000000000000000\n\n",
+    "00000000FFFFFFFF0000000000000000\r\n",
+    "\n00000000FFFFFFFF0000000000000000",
     "00000000FFFFFFFF0000000000000000\r",
     "00000000FFFFFFFF000000000000000\n",
     " 0000000FFFFFFFF0000000000000000",
@@ -1493,6 +1856,7 @@ fn kept_literals(tool: &mut Tool) -> Done {
     write("recording", &text(A))?;
     for (line, printed) in LITERAL_LINES {
         tool.expect_text(&["line", line], printed)?;
+        tool.expect_text(&["line", &format!("{line}\n")], printed)?;
     }
     for word in NO_LINES {
         tool.expect_text(&["line", word], NO_LINE)?;
@@ -1509,6 +1873,8 @@ fn kept(tool: &mut Tool, line: &[u8]) -> Done {
     if word.contains(&0) {
         return Ok(());
     }
+    // Some words begin as options do.
+    tool.expect(&[b"line", &b"--"[..], word])?;
     tool.expect(&[b"line", word])
 }
 
@@ -1676,9 +2042,10 @@ fn refusals(tool: &mut Tool) -> Done {
 /// Thread 0's block ends behind thread 1's acquire, which comes first in the serial order.
 const MOVED: &str = "05000000 01010000 06000000";
 const MOVED_START: &str = r##"<!-- reducible: no frame goes wrong; frames: 3. -->
-<svg xmlns="http://www.w3.org/2000/svg" width="832" height="162" viewBox="0 0 832 162" font-family="sans-serif" font-size="12">
+<svg xmlns="http://www.w3.org/2000/svg" width="836" height="162" viewBox="0 0 836 162" font-family="sans-serif" font-size="12">
+<title>reducible: no frame goes wrong; frames: 3.</title>
 "##;
-const MOVED_REST: &str = r##"<rect width="832" height="162" fill="#fff"/>
+const MOVED_REST: &str = r##"<rect width="836" height="162" fill="#fff"/>
 <text class="head" x="8" y="20">reducible: no frame goes wrong; frames: 3.</text>
 <text class="key" x="8" y="38">wide bar: atomic block; diamond: its commit; thin bar: lock held; arrow: to its place in the serial order</text>
 <text class="line" x="72" y="109" text-anchor="end">1 [0]</text>
@@ -1692,15 +2059,15 @@ const MOVED_REST: &str = r##"<rect width="832" height="162" fill="#fff"/>
 <text class="head" x="240" y="72">thread 1</text>
 <text class="number" x="243" y="88" text-anchor="middle">0</text>
 <rect class="k0" x="240" y="123" width="6" height="27"/>
-<text class="frame" x="256" y="127">acquire lock 0</text>
-<text class="head" x="578" y="72">serial order</text>
-<path class="move t0" d="M392 105L552 123" marker-end="url(#to)"/>
-<rect class="block t0" x="560" y="116" width="6" height="32"/>
-<text class="frame" x="578" y="127">thread 0: begin (+1)</text>
-<path class="move t1" d="M392 123L552 105" marker-end="url(#to)"/>
-<text class="frame" x="578" y="109">thread 1: acquire lock 0 (-1)</text>
-<path class="stay" d="M392 141L552 141"/>
-<text class="frame" x="578" y="145">thread 0: end</text>
+<text class="frame" x="260" y="127">acquire lock 0</text>
+<text class="head" x="582" y="72">serial order</text>
+<path class="move t0" d="M396 105L556 123" marker-end="url(#to)"/>
+<rect class="block t0" x="564" y="116" width="6" height="32"/>
+<text class="frame" x="582" y="127">thread 0: begin (+1)</text>
+<path class="move t1" d="M396 123L556 105" marker-end="url(#to)"/>
+<text class="frame" x="582" y="109">thread 1: acquire lock 0 (-1)</text>
+<path class="stay" d="M396 141L556 141"/>
+<text class="frame" x="582" y="145">thread 0: end</text>
 </svg>
 "##;
 
@@ -1711,43 +2078,123 @@ const GONE_WRONG_START: &str = r##"<!-- violation: kind 4, candidate set emptied
   It goes wrong at line 2 [1]: read of variable 5.
   Locks left that may guard variable 5: all 64. Thread 8 holds none of them, so no one lock guards every access of the variable.
   To mend it, hold one lock at every access of the variable. -->
-<svg xmlns="http://www.w3.org/2000/svg" width="920" height="234" viewBox="0 0 920 234" font-family="sans-serif" font-size="12">
+<svg xmlns="http://www.w3.org/2000/svg" width="920" height="252" viewBox="0 0 920 252" font-family="sans-serif" font-size="12">
+<title>violation: kind 4, candidate set emptied, by thread 8.</title>
 "##;
-const GONE_WRONG_REST: &str = r##"<rect width="920" height="234" fill="#fff"/>
+const GONE_WRONG_REST: &str = r##"<rect width="920" height="252" fill="#fff"/>
 <text class="wrong" x="8" y="20">violation: kind 4, candidate set emptied, by thread 8.</text>
 <text class="why" x="8" y="38">  The thread is in no block.</text>
 <text class="why" x="8" y="56">  It goes wrong at line 2 [1]: read of variable 5.</text>
 <text class="why" x="8" y="74">  Locks left that may guard variable 5: all 64. Thread 8 holds none of them, so no one lock guards every access of the variable.</text>
 <text class="why" x="8" y="92">  To mend it, hold one lock at every access of the variable.</text>
-<text class="key" x="8" y="110">wide bar: atomic block; diamond: its commit; thin bar: lock held; arrow: to its place in the serial order</text>
-<text class="line" x="72" y="181" text-anchor="end">1 [0]</text>
-<text class="line" x="72" y="199" text-anchor="end">2 [1]</text>
-<text class="line" x="72" y="217" text-anchor="end">3 [2]</text>
-<text class="head" x="88" y="144">thread 8</text>
-<rect class="block t0" x="88" y="206" width="8" height="14"/>
-<rect class="mark" x="100" y="187" width="136" height="16"/>
-<text class="wrong" x="104" y="199">read variable 5</text>
-<text class="late" x="104" y="217">begin</text>
-<text class="head" x="240" y="144">thread 9</text>
-<text class="number" x="243" y="160" text-anchor="middle">11</text>
-<rect class="k3" x="240" y="177" width="6" height="45"/>
-<text class="frame" x="256" y="181">acquire lock 11</text>
+<text class="note" x="8" y="110">No serial order: the recording is not reducible.</text>
+<text class="key" x="8" y="128">wide bar: atomic block; dashed bar: open at the end; thin bar: lock held; red box: the violation; grey: behind the violation</text>
+<text class="line" x="72" y="199" text-anchor="end">1 [0]</text>
+<text class="line" x="72" y="217" text-anchor="end">2 [1]</text>
+<text class="line" x="72" y="235" text-anchor="end">3 [2]</text>
+<text class="head" x="88" y="162">thread 8</text>
+<rect class="block open t0" x="88" y="224" width="8" height="16"/>
+<rect class="mark" x="100" y="205" width="136" height="16"/>
+<text class="wrong" x="104" y="217">read variable 5</text>
+<text class="late" x="104" y="235">begin</text>
+<text class="head" x="240" y="162">thread 9</text>
+<text class="number" x="243" y="178" text-anchor="middle">11</text>
+<rect class="k3" x="240" y="195" width="6" height="45"/>
+<text class="frame" x="260" y="199">acquire lock 11</text>
 </svg>
 "##;
 
-/// Two pictures, but for the style, which stands on the page as it is printed.
+/// Lines 2 to 6 of eight: a lock held and a block open before them, a commit before them, and a
+/// violation in them.
+const WINDOW: &str = "05000000 01000003 02000003 05010000 04000005 01000004 06010000 05000000";
+const WINDOW_START: &str = r##"<!-- violation: kind 4, candidate set emptied, by thread 0.
+  The block begins at line 1 [0].
+  It commits at line 3 [2]: release of lock 3.
+  It goes wrong at line 5 [4]: write of variable 5.
+  Locks left that may guard variable 5: all 64. Thread 0 holds none of them, so no one lock guards every access of the variable.
+  To mend it, hold one lock at every access of the variable. -->
+<svg xmlns="http://www.w3.org/2000/svg" width="1102" height="288" viewBox="0 0 1102 288" font-family="sans-serif" font-size="12">
+<title>violation: kind 4, candidate set emptied, by thread 0.</title>
+"##;
+const WINDOW_REST: &str = r##"<rect width="1102" height="288" fill="#fff"/>
+<text class="wrong" x="8" y="20">violation: kind 4, candidate set emptied, by thread 0.</text>
+<text class="why" x="8" y="38">  The block begins at line 1 [0].</text>
+<text class="why" x="8" y="56">  It commits at line 3 [2]: release of lock 3.</text>
+<text class="why" x="8" y="74">  It goes wrong at line 5 [4]: write of variable 5.</text>
+<text class="why" x="8" y="92">  Locks left that may guard variable 5: all 64. Thread 0 holds none of them, so no one lock guards every access of the variable.</text>
+<text class="why" x="8" y="110">  To mend it, hold one lock at every access of the variable.</text>
+<text class="note" x="8" y="128">No serial order: the recording is not reducible.</text>
+<text class="note" x="8" y="146">Lines 4 to 6 of 8 are drawn.</text>
+<text class="key" x="8" y="164">wide bar: atomic block; dashed bar: open at the end; thin bar: lock held; red box: the violation; dashed line: from its commit; grey: behind the violation</text>
+<text class="line" x="72" y="235" text-anchor="end">4 [3]</text>
+<text class="line" x="72" y="253" text-anchor="end">5 [4]</text>
+<text class="line" x="72" y="271" text-anchor="end">6 [5]</text>
+<text class="head" x="88" y="198">thread 0</text>
+<text class="number" x="91" y="214" text-anchor="middle">4</text>
+<rect class="k4" x="88" y="267" width="6" height="9"/>
+<rect class="block open t0" x="104" y="222" width="8" height="54"/>
+<rect class="mark" x="116" y="241" width="136" height="16"/>
+<path class="join" d="M108 222L116 249"/>
+<text class="wrong" x="120" y="253">write variable 5</text>
+<text class="late" x="120" y="271">acquire lock 4</text>
+<text class="head" x="256" y="198">thread 1</text>
+<rect class="block t1" x="256" y="224" width="8" height="52"/>
+<text class="frame" x="272" y="235">begin</text>
+</svg>
+"##;
+
+/// Lines 2 and 3 of four: a block that begins before them, and moves through them.
+const CROSSED: &str = "05000000 01010000 02010000 06000000";
+const CROSSED_START: &str = r##"<!-- reducible: no frame goes wrong; frames: 4. -->
+<svg xmlns="http://www.w3.org/2000/svg" width="768" height="162" viewBox="0 0 768 162" font-family="sans-serif" font-size="12">
+<title>reducible: no frame goes wrong; frames: 4.</title>
+"##;
+const CROSSED_REST: &str = r##"<rect width="768" height="162" fill="#fff"/>
+<text class="head" x="8" y="20">reducible: no frame goes wrong; frames: 4.</text>
+<text class="note" x="8" y="38">Lines 2 to 3 of 4 are drawn.</text>
+<text class="key" x="8" y="56">thin bar: lock held; arrow: to its place in the serial order</text>
+<text class="line" x="72" y="127" text-anchor="end">2 [1]</text>
+<text class="line" x="72" y="145" text-anchor="end">3 [2]</text>
+<text class="head" x="88" y="90">thread 1</text>
+<text class="number" x="91" y="106" text-anchor="middle">0</text>
+<rect class="k0" x="88" y="123" width="6" height="18"/>
+<text class="frame" x="108" y="127">acquire lock 0</text>
+<text class="frame" x="108" y="145">release lock 0</text>
+<text class="head" x="430" y="90">serial order</text>
+<path class="move t0" d="M244 114L404 141" marker-end="url(#to)"/>
+<rect class="block t0" x="412" y="134" width="6" height="16"/>
+<text class="frame" x="430" y="145">thread 0: begin (+2)</text>
+<path class="move t1" d="M244 123L404 114"/>
+<path class="move t1" d="M244 141L404 123" marker-end="url(#to)"/>
+<text class="frame" x="430" y="127">thread 1: release lock 0 (-1)</text>
+</svg>
+"##;
+
+/// Pictures, but for the style, which stands on the page as it is printed.
 fn pictures(tool: &mut Tool) -> Done {
     let style = section("draw")
         .lines()
         .filter_map(|line| line.strip_prefix("       "));
     let style: String = style.map(|line| format!("{line}\n")).collect();
-    for (words, start, rest) in [
-        (MOVED, MOVED_START, MOVED_REST),
-        (GONE_WRONG, GONE_WRONG_START, GONE_WRONG_REST),
+    for (words, start, rest, window) in [
+        (MOVED, MOVED_START, MOVED_REST, &[][..]),
+        (GONE_WRONG, GONE_WRONG_START, GONE_WRONG_REST, &[]),
+        (
+            WINDOW,
+            WINDOW_START,
+            WINDOW_REST,
+            &["--from", "4", "--to", "6"],
+        ),
+        (
+            CROSSED,
+            CROSSED_START,
+            CROSSED_REST,
+            &["--to", "3", "--from", "2"],
+        ),
     ] {
         write("recording", &text(words))?;
         let printed = [start, &style, rest].concat();
-        tool.expect_text(&["draw", "recording"], &printed)?;
+        tool.expect_text(&[&["draw", "recording"], window].concat(), &printed)?;
     }
     Ok(())
 }
@@ -1786,7 +2233,7 @@ fn greatest_pictures(tool: &mut Tool, random: &mut Random) -> Done {
     let locks = all_locks(random, 31);
     let freed: Vec<u32> = locks
         .iter()
-        .map(|lock| lock + (RELEASE - ACQUIRE << 24))
+        .map(|lock| lock + ((RELEASE - ACQUIRE) << 24))
         .collect();
     let held = [&locks[..], &freed].concat();
     let nested = [&pairs(1)[..], &deep[..480], &locks].concat();
@@ -1972,14 +2419,17 @@ fn faulty(tool: &mut Tool, text: &[u8], place: usize, fault: &str) -> Done {
     // Each fault with all commands would be many runs.
     let turn = text.len() + place;
     let [of_recording, of_list] = [turn, turn / 4].map(|turn| TELLING[turn % 4]);
-    let printed = refused_by_byte(place, RECORDING, fault);
-    tool.expect_text(&[of_recording, "faulty"], &printed)?;
-    let printed = refused_by_byte(place, GUARD_LIST, fault);
-    tool.expect_text(&[of_list, "good", "--guards", "faulty"], &printed)?;
-    let printed = refused_by_byte(place, LEFT, fault);
-    tool.expect_text(&["equal", "faulty", "good"], &printed)?;
-    let printed = refused_by_byte(place, RIGHT, fault);
-    tool.expect_text(&["equal", "good", "faulty"], &printed)
+    let printed = |command, source| {
+        let text = refused_by_byte(place, source, fault);
+        told(command, "faulty", place, &text)
+    };
+    tool.expect_text(&[of_recording, "faulty"], &printed(of_recording, RECORDING))?;
+    tool.expect_text(
+        &[of_list, "good", "--guards", "faulty"],
+        &printed(of_list, GUARD_LIST),
+    )?;
+    tool.expect_text(&["equal", "faulty", "good"], &printed("equal", LEFT))?;
+    tool.expect_text(&["equal", "good", "faulty"], &printed("equal", RIGHT))
 }
 
 fn faults(tool: &mut Tool) -> Done {
@@ -2019,10 +2469,14 @@ fn faults(tool: &mut Tool) -> Done {
         &format!("column 2 is behind the end of the file, {ENDED}"),
     );
     for command in TELLING {
+        let printed = told(command, "list", 0, &printed);
         tool.expect_text(&[command, "faulty", "--guards", "list"], &printed)?;
     }
     let printed = refused_by_byte(0, LEFT, &format!("column 1 has byte 0A, {BLANK_LINE}"));
-    tool.expect_text(&["equal", "faulty", "list"], &printed)
+    tool.expect_text(
+        &["equal", "faulty", "list"],
+        &told("equal", "faulty", 0, &printed),
+    )
 }
 
 /// Recordings and lists with a byte changed, put in or taken away, or with the end cut off.
@@ -2212,14 +2666,15 @@ fn long_literals(tool: &mut Tool) -> Done {
     for guards in [&[][..], &["--guards", "list"]] {
         let words = |command| [&[command, "long"], guards].concat();
         tool.expect_text(&words("verdict"), TOO_LONG)?;
-        tool.expect_text(&words("serial"), &too_long(RECORDING))?;
-        tool.expect_text(&words("moves"), &too_long(RECORDING))?;
-        tool.expect_text(&words("draw"), &too_long(RECORDING))?;
-        tool.expect_text(&words("explain"), &too_long(RECORDING))?;
+        for command in TELLING {
+            let printed = told(command, "long", MOST_FRAMES, &too_long(RECORDING));
+            tool.expect_text(&words(command), &printed)?;
+        }
     }
-    tool.expect_text(&["equal", "long", "good"], &too_long(LEFT))?;
-    tool.expect_text(&["equal", "good", "long"], &too_long(RIGHT))?;
-    tool.expect_text(&["equal", "long", "long"], &too_long(LEFT))?;
+    let of_equal = |source| told("equal", "long", MOST_FRAMES, &too_long(source));
+    tool.expect_text(&["equal", "long", "good"], &of_equal(LEFT))?;
+    tool.expect_text(&["equal", "good", "long"], &of_equal(RIGHT))?;
+    tool.expect_text(&["equal", "long", "long"], &of_equal(LEFT))?;
     // A list is never too long.
     let named =
         "refused: number 12, line 3 [2] of the guard list names a variable that an earlier \
@@ -2241,12 +2696,14 @@ fn long_literals(tool: &mut Tool) -> Done {
     write("faulty", &long_with(100, b'a'))?;
     tool.expect_text(&["verdict", "faulty"], "81006400FFFFFFFF0000000000000000\n")?;
     tool.expect_text(&["explain", "faulty"], &faulty(RECORDING))?;
-    tool.expect_text(&["equal", "faulty", "long"], &faulty(LEFT))?;
-    tool.expect_text(&["equal", "long", "faulty"], &too_long(LEFT))?;
+    let printed = told("equal", "faulty", 100, &faulty(LEFT));
+    tool.expect_text(&["equal", "faulty", "long"], &printed)?;
+    tool.expect_text(&["equal", "long", "faulty"], &of_equal(LEFT))?;
     // A file without an end is read no further.
     let zero = "column 1 has byte 00, not a digit; write 0-9 A-F.";
-    let zero = refused_by_byte(0, RECORDING, zero).into_bytes();
-    tool.expect_one(&["explain", "/dev/zero"], &[zero])?;
+    let zero = refused_by_byte(0, RECORDING, zero);
+    let answer = literal("explain", &zero);
+    tool.expect_answer(&["explain", "/dev/zero"], &Input::Nothing, &answer)?;
     for name in ["long", "faulty"] {
         context(fs::remove_file(name), "removing a file")?;
     }
@@ -2282,9 +2739,20 @@ fn names(tool: &mut Tool) -> Done {
         b"$HOME",
         b"'\"",
         b"\xFF",
+        b"\xFF\xFE:1: \x80",
+        b"--",
+        b"--help",
+        b"-h",
+        b"--guards",
+        b"--guards=list",
+        b"a=b",
     ] {
         write(name, &text(A))?;
         in_each_place(tool, name)?;
+        tool.expect(&[&b"verdict"[..], b"--", name])?;
+        tool.expect(&[&b"explain"[..], b"good", b"--", name])?;
+        tool.expect(&[&b"draw"[..], b"--guards", b"list", b"--", name])?;
+        tool.expect(&[&b"equal"[..], b"--", name, b"good"])?;
         context(fs::remove_file(OsStr::from_bytes(name)), "removing a file")?;
     }
     Ok(())
@@ -2396,19 +2864,26 @@ fn two_faults(tool: &mut Tool) -> Done {
     tool.expect_text(&["equal", "missing", "absent"], &error("missing"))?;
     tool.expect_text(&["equal", "refused", "absent"], &error("absent"))?;
     tool.expect_text(&["equal", "absent", "refused"], &error("absent"))?;
-    tool.expect_text(&["equal", "missing", ""], &error("missing"))?;
+    tool.expect_text(&["equal", "missing", ""], empty)?;
     tool.expect_text(&["equal", "", "missing"], empty)?;
     for command in JUDGING {
-        for (recording, list, printed) in [
-            ("missing", "absent", &error("missing")[..]),
-            ("absent", "list", &error("absent")),
-            ("refused", "absent", &error("absent")),
-            ("missing", "", &error("missing")),
-            ("", "missing", empty),
-            ("", "", empty),
-            ("refused", "", empty),
+        for (recording, list, first, second) in [
+            (
+                "missing",
+                "absent",
+                &error("missing")[..],
+                &error("absent")[..],
+            ),
+            ("absent", "list", &error("absent"), &error("absent")),
+            ("refused", "absent", &error("absent"), &error("absent")),
+            ("missing", "", empty, empty),
+            ("", "missing", empty, empty),
+            ("", "", empty, empty),
+            ("refused", "", empty, empty),
         ] {
-            tool.expect_text(&[command, recording, "--guards", list], printed)?;
+            tool.expect_text(&[command, recording, "--guards", list], first)?;
+            tool.expect_text(&[command, "--guards", list, recording], second)?;
+            tool.expect_text(&[command, &format!("--guards={list}"), recording], second)?;
         }
     }
     Ok(())
@@ -2416,124 +2891,277 @@ fn two_faults(tool: &mut Tool) -> Done {
 
 // Bad use.
 
+/// Words that are no command, and the command that is near.
+const NO_COMMANDS: [(&str, &str); 62] = [
+    ("judge", ""),
+    ("", ""),
+    (" ", ""),
+    ("Verdict", "verdict"),
+    ("verdicts", "verdict"),
+    ("verdic", "verdict"),
+    ("verdi", "verdict"),
+    ("verd", ""),
+    ("erdic", "verdict"),
+    ("equal ", "equal"),
+    ("equals", "equal"),
+    ("qual", "equal"),
+    ("serail", "serial"),
+    ("series", "serial"),
+    ("Line", "line"),
+    ("lines", "line"),
+    ("lin", "line"),
+    ("lne", "line"),
+    ("li", ""),
+    ("l", ""),
+    ("Moves", "moves"),
+    ("move", "moves"),
+    ("mvoes", "moves"),
+    ("Draw", "draw"),
+    ("draws", "draw"),
+    ("dra", "draw"),
+    ("deal", "draw"),
+    ("drawing", ""),
+    ("explian", "explain"),
+    ("expl", ""),
+    ("explains", "explain"),
+    ("Help", "help"),
+    ("helps", "help"),
+    ("hel", "help"),
+    ("he", ""),
+    ("hlep", "help"),
+    ("help ", "help"),
+    (" help", "help"),
+    ("-help", "help"),
+    ("heal", "help"),
+    // As near to line as to help.
+    ("hene", "line"),
+    ("h\u{e9}lp", "help"),
+    ("--hel", ""),
+    ("--helps", ""),
+    ("--Help", ""),
+    ("h", ""),
+    ("-H", ""),
+    ("-hh", ""),
+    ("--h", ""),
+    ("version", ""),
+    ("-version", ""),
+    ("--Version", ""),
+    ("--versio", ""),
+    ("--versions", ""),
+    ("-v", ""),
+    ("-VV", ""),
+    ("-", ""),
+    ("--", ""),
+    ("--guards", ""),
+    ("--guards=list", ""),
+    ("-x", ""),
+    ("recording", ""),
+];
+
 fn no_such_command(tool: &mut Tool) -> Done {
-    for name in [
-        "judge",
-        "",
-        " ",
-        "Verdict",
-        "verdicts",
-        "verdic",
-        "equal ",
-        "Line",
-        "lines",
-        "lin",
-        "Moves",
-        "move",
-        "Draw",
-        "draws",
-        "dra",
-        "Help",
-        "helps",
-        "hel",
-        "help ",
-        " help",
-        "-help",
-        "--hel",
-        "--helps",
-        "--Help",
-        "h",
-        "-H",
-        "-hh",
-        "--h",
-        "version",
-        "-version",
-        "--Version",
-        "--versio",
-        "--versions",
-        "-v",
-        "-V",
-        "-",
-        "--",
-        "--guards",
-        "recording",
-    ] {
+    for (name, near) in NO_COMMANDS {
+        let near = match near {
+            "" => String::new(),
+            _ => format!("; did you mean {near}?"),
+        };
         let printed = format!(
-            "error: no such command: {name}\n\
+            "error: no such command: {name}{near}\n\
              commands: verdict, serial, moves, draw, equal, explain, line, help\n"
         );
         tool.expect_text(&[name], &printed)?;
         tool.expect_text(&[name, "recording"], &printed)?;
         tool.expect_text(&[name, "recording", "--guards", "list"], &printed)?;
+        tool.expect_text(&[name, "--help"], &printed)?;
     }
-    tool.expect_text(&["", "help"], NO_NAME)?;
     tool.expect(&["m".repeat(5000)])?;
-    tool.expect(&[b"\xFF\xFE"])
+    tool.expect(&[b"\xFF\xFE"])?;
+    tool.expect(&[b"l\xFFine"])
 }
 
-const NO_NAME: &str = "error: no such command: \n\
-                       commands: verdict, serial, moves, draw, equal, explain, line, help\n";
-
-/// Words that are none of the uses of the commands on one recording.
-const WRONG: [&str; 15] = [
+/// Words behind a command on one recording that are none of its uses.
+const MISUSED: [&str; 9] = [
     "",
-    "recording list",
     "recording --guards",
-    "recording recording list",
-    "recording --guard list",
-    "recording -guards list",
-    "recording --Guards list",
-    "recording --guardss list",
-    "recording --guards=list",
-    "recording list --guards",
+    "--guards",
     "--guards list",
-    "--guards list recording",
-    "recording --guards list list",
+    "--guards=list",
+    "recording list --guards",
     "recording --guards list --guards list",
-    "missing --guard missing",
+    "recording --guards=list --guards=list",
+    "--guards list recording --guards",
 ];
+/// Those of a command that takes one recording alone.
+const TOO_MANY: [&str; 6] = [
+    "recording list",
+    "recording recording list",
+    "recording --guards list list",
+    "recording -- list",
+    "recording -- --help",
+    "- -",
+];
+/// Words behind a command, and the first of them that is no option.
+const NO_OPTIONS: [(&str, &str); 18] = [
+    ("recording --guard list", "--guard"),
+    ("recording -guards list", "-guards"),
+    ("recording --Guards list", "--Guards"),
+    ("recording --guardss list", "--guardss"),
+    ("recording --guard=list", "--guard=list"),
+    ("recording -g list", "-g"),
+    ("recording -x", "-x"),
+    ("-x recording", "-x"),
+    ("--version", "--version"),
+    ("recording -V", "-V"),
+    ("recording --helps", "--helps"),
+    ("recording -hh", "-hh"),
+    ("recording --help=all", "--help=all"),
+    ("recording ---", "---"),
+    ("missing --guard missing", "--guard"),
+    ("--x --y", "--x"),
+    ("--x --guards", "--x"),
+    ("recording list more - - -x", "-x"),
+];
+
+fn words_behind<'a>(command: &'a str, words: &'a str) -> Vec<&'a str> {
+    let words = words.split_whitespace();
+    [command].into_iter().chain(words).collect()
+}
+
+/// The use of a command, by the page's first lines.
+fn use_of(command: &str) -> String {
+    let start = format!("tracetool {command} ");
+    let found = uses().into_iter().find(|line| line.starts_with(&start));
+    let (used, _) = found.expect("a use").split_once("   ").expect("a meaning");
+    format!("error: use: {}\n", used.trim_end())
+}
 
 fn wrong_use(tool: &mut Tool) -> Done {
     for command in JUDGING {
-        let printed = format!("error: use: tracetool {command} RECORDING [--guards LIST]\n");
-        for operands in WRONG {
-            let words = format!("{command} {operands}");
-            let words: Vec<&str> = words.split_whitespace().collect();
-            tool.expect_text(&words, &printed)?;
+        let misused = use_of(command);
+        for words in MISUSED {
+            tool.expect_text(&words_behind(command, words), &misused)?;
         }
-        tool.expect_text(&[command, "recording", "", "list"], &printed)?;
+        let several = matches!(command, "verdict" | "explain");
+        if !several {
+            for words in TOO_MANY {
+                tool.expect_text(&words_behind(command, words), &misused)?;
+            }
+            tool.expect_text(&[command, "recording", "", "list"], &misused)?;
+        }
+        for option in ["--from", "--to"] {
+            let printed = match command {
+                "draw" => misused.clone(),
+                _ => format!("error: no such option: {option}\n"),
+            };
+            tool.expect_text(&[command, "recording", option], &printed)?;
+            tool.expect(&[command, "recording", option, "1"])?;
+            tool.expect(&[command, option, "1", "recording"])?;
+            tool.expect(&[command, "recording", &format!("{option}=1")])?;
+            let twice = [command, option, "1", "recording", option, "1"];
+            tool.expect_text(&twice, &printed)?;
+        }
     }
-    let printed = "error: use: tracetool equal LEFT RIGHT\n";
-    for words in [
-        &["equal"][..],
-        &["equal", "recording"],
-        &["equal", "recording", "recording", "recording"],
-        &["equal", "recording", "recording", "--guards", "list"],
+    for command in [
+        "verdict", "serial", "moves", "draw", "explain", "equal", "line",
     ] {
-        tool.expect_text(words, printed)?;
+        for (words, name) in NO_OPTIONS {
+            let printed = format!("error: no such option: {name}\n");
+            tool.expect_text(&words_behind(command, words), &printed)?;
+        }
     }
-    let (printed, line) = ("error: use: tracetool line LINE\n", LITERAL_LINES[5].0);
+    let of_equal = use_of("equal");
+    for words in [
+        "",
+        "recording",
+        "recording recording recording",
+        "-- recording",
+        "-",
+    ] {
+        tool.expect_text(&words_behind("equal", words), &of_equal)?;
+    }
+    let (of_line, line) = (use_of("line"), LITERAL_LINES[5].0);
     for words in [
         &["line"][..],
+        &["line", "--"],
         &["line", line, line],
         &["line", line, ""],
         &["line", "", ""],
-        &["line", "recording", "--guards", "list"],
-        &["line", line, "--guards", "list"],
+        &["line", "-", "-"],
+        &["line", line, "-"],
         &["line", line, line, line, line],
     ] {
-        tool.expect_text(words, printed)?;
+        tool.expect_text(words, &of_line)?;
     }
-    Ok(())
+    // These take no list.
+    tool.expect(&["equal", "recording", "recording", "--guards", "list"])?;
+    tool.expect(&["line", line, "--guards", "list"])
+}
+
+/// Options where they may stand: the answers are those without, or with the list behind.
+fn options(tool: &mut Tool) -> Done {
+    for command in JUDGING {
+        for words in [
+            &["recording", "--guards", "list"][..],
+            &["--guards", "list", "recording"],
+            &["recording", "--guards=list"],
+            &["--guards=list", "recording"],
+            &["--guards", "list", "--", "recording"],
+            &["--guards=list", "--", "recording"],
+            &["--guards", "--", "recording"],
+            &["--guards", "--help", "recording"],
+            &["--guards", "--guards", "recording"],
+            &["recording", "--guards", "-h"],
+            &["recording", "--guards=--help"],
+            &["recording", "--guards=a=b"],
+            &["recording", "--guards=="],
+            &["--", "recording"],
+            &["--", "--guards"],
+            &["recording", "--"],
+            &["--", "--"],
+        ] {
+            tool.expect(&[&[command], words].concat())?;
+        }
+    }
+    let guarded = tool.run(
+        &["verdict", "recording", "--guards", "list"],
+        &Input::Nothing,
+    )?;
+    for words in [
+        &["verdict", "--guards", "list", "recording"][..],
+        &["verdict", "--guards=list", "recording"],
+        &["verdict", "--guards=list", "--", "recording"],
+    ] {
+        let answer = tool.run(words, &Input::Nothing)?;
+        same(
+            "the answer with the option elsewhere",
+            answer,
+            guarded.clone(),
+        )?;
+    }
+    tool.expect(&["equal", "--", "recording", "recording"])?;
+    tool.expect(&["equal", "recording", "--", "recording"])?;
+    let (line, printed) = LITERAL_LINES[5];
+    tool.expect_text(&["line", "--", line], printed)?;
+    tool.expect_text(&["line", "--", "--help"], NO_LINE)?;
+    tool.expect_text(&["line", "--", "-x"], NO_LINE)?;
+    tool.expect_text(&["line", "--", "--"], NO_LINE)
 }
 
 fn empty_names(tool: &mut Tool) -> Done {
     let printed = "error: a file name is empty\n";
     for command in JUDGING {
         tool.expect_text(&[command, ""], printed)?;
+        tool.expect_text(&[command, "--", ""], printed)?;
         tool.expect_text(&[command, "", "--guards", "list"], printed)?;
         tool.expect_text(&[command, "recording", "--guards", ""], printed)?;
+        tool.expect_text(&[command, "recording", "--guards="], printed)?;
+        // Before standard input that is named twice, and before numbers.
+        tool.expect_text(&[command, "-", "--guards="], printed)?;
     }
+    for command in ["verdict", "explain"] {
+        tool.expect_text(&[command, "recording", "", "missing"], printed)?;
+        tool.expect_text(&[command, "-", "", "-"], printed)?;
+    }
+    tool.expect_text(&["draw", "", "--from", "x"], printed)?;
     tool.expect_text(&["equal", "", "recording"], printed)?;
     tool.expect_text(&["equal", "recording", ""], printed)
 }
@@ -2543,13 +3171,14 @@ fn bad_use(tool: &mut Tool) -> Done {
     write("list", &text("00000000 00010000"))?;
     no_such_command(tool)?;
     wrong_use(tool)?;
+    options(tool)?;
     empty_names(tool)
 }
 
 /// The help has the uses that the page begins with. What stands behind the words that ask for it,
-/// or for the version, is not looked at.
+/// or for the version, is not looked at; before and behind that of one command neither.
 fn help(tool: &mut Tool) -> Done {
-    let (help, version) = help_texts();
+    let (help, version, of_commands) = help_texts();
     if !help.starts_with(&format!("usage: {}\n", uses().join("\n       "))) {
         return Err(format!("the help lacks a use: \"{help}\""));
     }
@@ -2571,17 +3200,736 @@ fn help(tool: &mut Tool) -> Done {
         for name in ["help", "--help", "-h"] {
             tool.expect_text(&[&[name], words].concat(), &help)?;
         }
-        tool.expect_text(&[&["--version"], words].concat(), &version)?;
-    }
-    tool.expect_text(&["--version"], "tracetool 1.0.0\n")?;
-    // Behind a command they are file names.
-    for name in ["help", "--help", "-h", "--version"] {
-        let printed = format!("error: cannot read {name}: no such file\n");
-        for command in JUDGING {
-            tool.expect_text(&[command, name], &printed)?;
+        for name in ["--version", "-V"] {
+            tool.expect_text(&[&[name], words].concat(), &version)?;
         }
-        tool.expect_text(&["equal", name, name], &printed)?;
-        tool.expect_text(&["line", name], NO_LINE)?;
+    }
+    let number = include_str!("../../../../VERSION").trim_end();
+    tool.expect_text(&["--version"], &format!("tracetool {number}\n"))?;
+    let commands = [
+        "verdict", "serial", "moves", "draw", "equal", "explain", "line",
+    ];
+    same("the helps of commands", of_commands.len(), commands.len())?;
+    for (command, help) in commands.into_iter().zip(&of_commands) {
+        let used = use_of(command).replace("error: use: ", "usage: ");
+        same(
+            "the help's use",
+            help.split_inclusive('\n').next(),
+            Some(&used[..]),
+        )?;
+        for asked in ["--help", "-h"] {
+            tool.expect_text(&[command, asked], help)?;
+            for words in [
+                &["missing"][..],
+                &["", ""],
+                &["-x"],
+                &["a", "b", "c", "-", "-"],
+            ] {
+                tool.expect_text(&[&[command], words, &[asked]].concat(), help)?;
+                tool.expect_text(&[&[command, asked], words].concat(), help)?;
+            }
+            tool.expect_text(&[command, "-", asked, "--"], help)?;
+        }
+        tool.expect(&[command, "--", "--help"])?;
+        tool.expect(&[command, "help"])?;
+        tool.expect(&[command, "help", "help"])?;
+    }
+    Ok(())
+}
+
+// Several recordings in a call.
+
+fn several(tool: &mut Tool, random: &mut Random) -> Done {
+    write("a", &text(A))?;
+    write("c", &text(C))?;
+    write("d", &text(D))?;
+    write("j", &text(J[1]))?;
+    write("none", b"")?;
+    write("list", &text("00050002"))?;
+    write("refused", &text("00050002 00050002"))?;
+    let nothing = &Input::Nothing;
+    let missing = "error: cannot read missing: no such file\n";
+    let absent = "error: cannot read absent: no such file\n";
+    let [a, c, none] = [
+        "a: 03000401000000030000000000000001\n",
+        "c: 00000A00FFFFFFFF0000000000000000\n",
+        "none: 00000000FFFFFFFF0000000000000000\n",
+    ];
+    let j = "j: 88000100FFFFFFFF0000000000000000\n";
+    for (words, out, err, status) in [
+        (&["a", "c"][..], [a, c].concat(), String::new(), 1),
+        (&["c", "none"], [c, none].concat(), String::new(), 0),
+        (&["c", "c", "c"], [c, c, c].concat(), String::new(), 0),
+        (&["j", "a", "c"], [j, a, c].concat(), String::new(), 2),
+        (&["c", "missing"], c.into(), missing.into(), 3),
+        (&["missing", "c"], c.into(), missing.into(), 3),
+        (
+            &["missing", "a", "absent", "j"],
+            [a, j].concat(),
+            [missing, absent].concat(),
+            3,
+        ),
+        (
+            &["missing", "absent"],
+            String::new(),
+            [missing, absent].concat(),
+            3,
+        ),
+        (
+            &["missing", "missing"],
+            String::new(),
+            [missing, missing].concat(),
+            3,
+        ),
+        (
+            &["a", "d", "--guards", "refused"],
+            "refused: 8C000100FFFFFFFF0000000000000000\n".into(),
+            String::new(),
+            2,
+        ),
+        (
+            &["missing", "absent", "--guards", "refused"],
+            "refused: 8C000100FFFFFFFF0000000000000000\n".into(),
+            String::new(),
+            2,
+        ),
+        (
+            &["a", "absent", "--guards", "missing"],
+            String::new(),
+            missing.into(),
+            3,
+        ),
+        (
+            &["a", "d", "--guards", "list"],
+            "a: 03000401000000020000000000000001\nd: 01000000FFFFFFFF0000000000000004\n".into(),
+            String::new(),
+            1,
+        ),
+    ] {
+        let words = [&["verdict"], words].concat();
+        tool.expect_all(&words, nothing, (&out, &err, status))?;
+    }
+    let explained = |of: &str, recording: &str| {
+        let found = LITERALS.iter().find(|(command, words, list, _)| {
+            *command == of && *words == recording && list.is_none()
+        });
+        found.expect("a literal").3
+    };
+    let (of_a, of_d) = (explained("explain", A), explained("explain", D));
+    let reducible = "reducible: no frame goes wrong; frames: 10.\n";
+    let out = format!("a:5: {of_a}c: {reducible}d:1: {of_d}none: {NOTHING}");
+    tool.expect_all(
+        &["explain", "a", "c", "missing", "d", "none"],
+        nothing,
+        (&out, missing, 3),
+    )?;
+    let refused =
+        "refused:2: refused: number 12, line 2 [1] of the guard list names a variable that \
+                   an earlier line names; keep one of the two.\n";
+    tool.expect_all(
+        &["explain", "missing", "c", "--guards", "refused"],
+        nothing,
+        (refused, "", 2),
+    )?;
+    let too_long = "long:4097: refused: number 2, the recording has more than 4096 lines; cut it \
+                    down to 4096.\n";
+    write("long", &text_of_words(&pairs(MOST_FRAMES + 1)))?;
+    let out = format!("{too_long}{too_long}c: {reducible}");
+    tool.expect_all(&["explain", "long", "long", "c"], nothing, (&out, "", 2))?;
+    context(fs::remove_file("long"), "removing a file")?;
+    // Standard input among them, and as the list.
+    let piped = Input::Pipe(text(D));
+    let out = format!("a:5: {of_a}-:1: {of_d}c: {reducible}");
+    tool.expect_all(&["explain", "a", "-", "c"], &piped, (&out, "", 1))?;
+    tool.expect_input(&["explain", "a", "c", "--guards", "-"], &piped)?;
+    tool.expect_input(
+        &["verdict", "a", "d", "--guards=-"],
+        &Input::Pipe(b"x".to_vec()),
+    )?;
+    tool.expect_input(&["verdict", "a", "-"], &Input::Folder)?;
+    tool.expect_input(&["verdict", "-", "a"], &Input::Closed)?;
+    for command in ["serial", "moves", "draw", "equal"] {
+        tool.expect(&[command, "a", "c", "d"])?;
+    }
+    let names = [
+        "a",
+        "c",
+        "d",
+        "j",
+        "none",
+        "missing",
+        "folder",
+        "recording",
+        "left",
+        "right",
+        "-",
+    ];
+    for _ in 0..RANDOM_SEVERAL {
+        let made = random_recording(random, Call::Declared, false);
+        write("recording", &text_of_words(&made.words))?;
+        let command = random.pick(&["verdict", "explain"]);
+        let mut words = vec![command];
+        for _ in 0..random.between(2, 7) {
+            words.push(random.pick(&names));
+        }
+        if random.chance(500) {
+            let place = random.between(1, words.len());
+            let list = random.pick(&["list", "list", "refused", "missing", "made", "made"]);
+            write("made", &exact_list(random, &made.guards))?;
+            words.splice(place..place, ["--guards", list]);
+        }
+        tool.expect_input(&words, &piped)?;
+    }
+    for name in ["a", "c", "d", "j", "none", "refused"] {
+        context(fs::remove_file(name), "removing a file")?;
+    }
+    Ok(())
+}
+
+// Standard input.
+
+/// As each file of each command, through a pipe and as a file.
+fn inputs(tool: &mut Tool) -> Done {
+    write("good", &text(A))?;
+    write("list", &text("00000000 00010000"))?;
+    let long = text_of_words(&pairs(MOST_FRAMES + 1));
+    for content in [
+        text(A),
+        text(C),
+        text("00000000 00010000"),
+        Vec::new(),
+        b"\xEF\xBB\xBF\n".to_vec(),
+        text(J[0]),
+        long.clone(),
+        long.repeat(4),
+    ] {
+        for input in [Input::Pipe(content.clone()), Input::File(content.clone())] {
+            for command in JUDGING {
+                tool.expect_input(&[command, "-"], &input)?;
+                tool.expect_input(&[command, "-", "--guards", "list"], &input)?;
+                tool.expect_input(&[command, "good", "--guards", "-"], &input)?;
+                tool.expect_input(&[command, "--guards=-", "good"], &input)?;
+                tool.expect_input(&[command, "--", "-"], &input)?;
+            }
+            tool.expect_input(&["equal", "-", "good"], &input)?;
+            tool.expect_input(&["equal", "good", "-"], &input)?;
+        }
+    }
+    let refused = told(
+        "equal",
+        "-",
+        0,
+        &refused_by_byte(
+            0,
+            RIGHT,
+            "column 1 has byte 78, not a digit; write 0-9 A-F.",
+        ),
+    );
+    let piped = Input::Pipe(b"x".to_vec());
+    tool.expect_all(&["equal", "good", "-"], &piped, (&refused, "", 2))?;
+    let refused = refused.replace(RIGHT, GUARD_LIST);
+    tool.expect_all(
+        &["serial", "good", "--guards", "-"],
+        &piped,
+        ("", &refused, 2),
+    )?;
+    let twice = "error: standard input is named twice\n";
+    for words in [
+        &["verdict", "-", "-"][..],
+        &["explain", "-", "good", "-"],
+        &["verdict", "-", "--guards", "-"],
+        &["serial", "--guards=-", "-"],
+        &["moves", "--guards=-", "--", "-"],
+        &["draw", "-", "--guards", "-", "--from", "x"],
+        &["equal", "-", "-"],
+        &["equal", "-", "--", "-"],
+        &["explain", "missing", "-", "--guards", "-"],
+    ] {
+        tool.expect_text(words, twice)?;
+    }
+    // Nothing is left for a second file by another name, and a file that is missing ends the call.
+    tool.expect_input(&["equal", "-", "missing"], &Input::Pipe(text(A)))?;
+    tool.expect_input(&["equal", "missing", "-"], &Input::Pipe(text(A)))?;
+    for (input, why) in [
+        (Input::Folder, "it is a directory"),
+        (Input::Closed, "it is closed"),
+    ] {
+        let error = format!("error: cannot read -: {why}\n");
+        for words in [
+            &["verdict", "-"][..],
+            &["serial", "-"],
+            &["explain", "good", "--guards", "-"],
+            &["equal", "good", "-"],
+            &["equal", "-", "good"],
+            &["line", "-"],
+        ] {
+            tool.expect_all(words, &input, ("", &error, 3))?;
+        }
+    }
+    // A closed standard input that is not named.
+    tool.expect_input(&["verdict", "good"], &Input::Closed)?;
+    for line in [
+        &b"05000000\n06000000\n"[..],
+        b"x",
+        b"\n",
+        b"00000000\n",
+        b"00000001\n00010001\n",
+    ] {
+        let endless = Input::Endless(line.to_vec());
+        for command in JUDGING {
+            tool.expect_input(&[command, "-"], &endless)?;
+            tool.expect_input(&[command, "good", "--guards", "-"], &endless)?;
+        }
+        tool.expect_input(&["equal", "-", "good"], &endless)?;
+        tool.expect_input(&["equal", "good", "-"], &endless)?;
+    }
+    context(fs::remove_file("input"), "removing a file")
+}
+
+/// Logs of kept lines.
+fn logs(tool: &mut Tool, random: &mut Random) -> Done {
+    let (line, printed) = LITERAL_LINES[5];
+    let (kept, reducible) = LITERAL_LINES[3];
+    let (refused, sentence) = LITERAL_LINES[19];
+    for (log, out, status) in [
+        (String::new(), String::new(), 0),
+        (format!("{kept}\n"), format!("-:1: {reducible}"), 0),
+        (kept.into(), format!("-:1: {reducible}"), 0),
+        (
+            format!("{kept}\n{line}\n{kept}"),
+            format!("-:1: {reducible}-:2: {printed}-:3: {reducible}"),
+            1,
+        ),
+        (
+            format!("{line}\n{refused}\n"),
+            format!("-:1: {printed}-:2: {sentence}"),
+            2,
+        ),
+        ("\n".into(), format!("-:1: {NO_LINE}"), 2),
+        (
+            format!("{kept}\n\n{kept}\r\n{kept}"),
+            format!("-:1: {reducible}-:2: {NO_LINE}-:3: {NO_LINE}-:4: {reducible}"),
+            2,
+        ),
+        (
+            format!("{kept}{kept}\n {kept}\n{kept} \n"),
+            format!("-:1: {NO_LINE}-:2: {NO_LINE}-:3: {NO_LINE}"),
+            2,
+        ),
+        (
+            format!("{}\n{kept}\n", "0".repeat(100_000)),
+            format!("-:1: {NO_LINE}-:2: {reducible}"),
+            2,
+        ),
+        ("0".repeat(100_000), format!("-:1: {NO_LINE}"), 2),
+    ] {
+        let log = log.into_bytes();
+        tool.expect_all(
+            &["line", "-"],
+            &Input::Pipe(log.clone()),
+            (&out, "", status),
+        )?;
+        tool.expect_all(&["line", "--", "-"], &Input::File(log), (&out, "", status))?;
+    }
+    tool.expect(&["line", "-"])?;
+    for lines in [1000, 5000] {
+        let log = format!("{line}\n").repeat(lines);
+        tool.expect_input(&["line", "-"], &Input::Pipe(log.into_bytes()))?;
+    }
+    for _ in 0..RANDOM_LOGS {
+        let mut log = Vec::new();
+        for _ in 0..random.below(40) {
+            match random.below(10) {
+                0 => log.push(b'\n'),
+                1 => log.extend((0..random.below(60)).map(|_| random.draw() as u8)),
+                2..5 => log.extend(random_line(random)),
+                _ => log.extend(random_fields(random).line().into_bytes()),
+            }
+        }
+        if random.chance(300) {
+            log.truncate(random.below(log.len() + 1));
+        }
+        tool.expect_input(&["line", "-"], &Input::Pipe(log))?;
+    }
+    context(fs::remove_file("input"), "removing a file")
+}
+
+// Pictures in part.
+
+/// Every window of small recordings, and numbers that are none.
+fn windows(tool: &mut Tool, random: &mut Random) -> Done {
+    write("list", &text("00050002"))?;
+    for words in [
+        A,
+        C,
+        E,
+        AGAIN,
+        AGAIN_UNITS,
+        SHARED,
+        WINDOW,
+        "05000000 05000000 05000000",
+        "",
+    ] {
+        write("recording", &text(words))?;
+        let count = words.split_whitespace().count();
+        for from in 0..=count + 1 {
+            for to in from.max(1)..=count + 2 {
+                let (from_word, to_word) = (from.to_string(), format!("{to:03}"));
+                let mut words = vec!["draw", "recording"];
+                if from > 0 {
+                    words.extend(["--from", &from_word]);
+                }
+                if to <= count + 1 {
+                    words.extend(["--to", &to_word]);
+                }
+                tool.expect(&words)?;
+            }
+        }
+        tool.expect(&["draw", "recording", "--guards", "list", "--from", "2"])?;
+        tool.expect(&["draw", "--to=2", "--guards=list", "--from=2", "recording"])?;
+        tool.expect(&["draw", "--to", "2", "recording"])?;
+    }
+    wrong_windows(tool)?;
+    default_windows(tool)?;
+    for _ in 0..RANDOM_WINDOWS {
+        let made = match random.below(4) {
+            0 => interleaved(random, 12, true),
+            1 => lock_walk(random),
+            2 => hold_walk(random),
+            _ => random_recording(random, Call::Declared, false),
+        };
+        write("recording", &text_of_words(&made.words))?;
+        write("list", &exact_list(random, &made.guards))?;
+        let most = made.words.len() + 3;
+        let mut bounds = [random.between(1, most), random.between(1, most)];
+        if random.chance(950) {
+            bounds.sort_unstable();
+        }
+        let [from, to] = bounds.map(|bound| bound.to_string());
+        let mut words = vec!["draw", "recording"];
+        if random.chance(600) {
+            words.extend(["--guards", "list"]);
+        }
+        if random.chance(800) {
+            words.extend(["--from", &from]);
+        }
+        if random.chance(800) {
+            words.extend(["--to", &to]);
+        }
+        tool.expect(&words)?;
+    }
+    Ok(())
+}
+
+fn wrong_windows(tool: &mut Tool) -> Done {
+    write("recording", &text(A))?;
+    write("faulty", b"x")?;
+    for word in [
+        "",
+        "0",
+        "00",
+        "000000000",
+        "-1",
+        "+1",
+        " 1",
+        "1 ",
+        "1.0",
+        "x",
+        "0x1",
+        "1x",
+        "1000000000",
+        "0000000001",
+        "99999999999999999999",
+        "one",
+        "\u{663}",
+        "--to",
+        "-",
+    ] {
+        let error = format!("error: no line number from 1 on: {word}\n");
+        for (recording, before) in [("recording", ""), ("missing", "1"), ("faulty", "1")] {
+            tool.expect_text(&["draw", recording, "--from", word], &error)?;
+            tool.expect_text(&["draw", recording, "--to", word], &error)?;
+            tool.expect_text(&["draw", &format!("--to={word}"), recording], &error)?;
+            if !before.is_empty() {
+                tool.expect_text(&["draw", recording, "--from", "1", "--to", word], &error)?;
+                tool.expect_text(&["draw", recording, "--to", word, "--from", before], &error)?;
+                tool.expect_text(&["draw", recording, "--to", "y", "--from", word], &error)?;
+            }
+        }
+    }
+    tool.expect(&[&b"draw"[..], b"recording", b"--from", b"\xFF1"])?;
+    for (from, to, error) in [
+        ("2", "1", "error: line 2 is behind line 1\n"),
+        ("007", "3", "error: line 7 is behind line 3\n"),
+        (
+            "999999999",
+            "999999998",
+            "error: line 999999999 is behind line 999999998\n",
+        ),
+        ("100", "9", "error: line 100 is behind line 9\n"),
+        (
+            "9",
+            "9",
+            "error: line 9 is behind the last line of the recording, 8\n",
+        ),
+        (
+            "0000009",
+            "100",
+            "error: line 9 is behind the last line of the recording, 8\n",
+        ),
+        (
+            "999999999",
+            "999999999",
+            "error: line 999999999 is behind the last line of the recording, 8\n",
+        ),
+    ] {
+        tool.expect_text(&["draw", "recording", "--from", from, "--to", to], error)?;
+        tool.expect_text(&["draw", "--to", to, "recording", "--from", from], error)?;
+        // A file that cannot be read, and a refusal, come between the two errors.
+        tool.expect(&["draw", "missing", "--from", from, "--to", to])?;
+        tool.expect(&["draw", "faulty", "--from", from, "--to", to])?;
+        tool.expect(&["draw", "recording", "--guards", "faulty", "--from", from])?;
+    }
+    write("recording", b"")?;
+    let error = "error: line 1 is behind the last line of the recording, 0\n";
+    tool.expect_text(&["draw", "recording", "--from", "1"], error)?;
+    tool.expect(&["draw", "recording", "--to", "1"])?;
+    context(fs::remove_file("faulty"), "removing a file")
+}
+
+/// About 400 frames, with a violation near each edge, and long recordings.
+fn default_windows(tool: &mut Tool) -> Done {
+    for count in [399, 400, 401, 402, 620, MOST_FRAMES] {
+        let edges = [
+            0,
+            1,
+            198,
+            199,
+            200,
+            201,
+            count - 202,
+            count - 201,
+            count - 200,
+            count - 1,
+        ];
+        for wrong in edges {
+            let mut words = pairs(count - 1);
+            words.insert(wrong, word(READ, 1, 5));
+            write("recording", &text_of_words(&words))?;
+            tool.expect(&["draw", "recording"])?;
+        }
+    }
+    let mut words = pairs(MOST_FRAMES - 1);
+    words.insert(2000, word(READ, 1, 5));
+    write("recording", &text_of_words(&words))?;
+    write("list", b"")?;
+    tool.expect(&["draw", "recording", "--from", "1"])?;
+    tool.expect(&["draw", "recording", "--to", "4096"])?;
+    tool.expect(&["draw", "recording", "--from", "4096"])?;
+    tool.expect(&["draw", "recording", "--from", "4000", "--to", "5000"])?;
+    // Reducible with this list, and so drawn whole.
+    tool.expect(&["draw", "recording", "--guards", "list"])
+}
+
+// Output that cannot be written.
+
+fn unwritable(tool: &mut Tool) -> Done {
+    write("recording", &text(A))?;
+    let line = LITERAL_LINES[5].0;
+    for words in [
+        &["verdict", "recording"][..],
+        &["explain", "recording", "recording"],
+        &["draw", "recording"],
+        &["equal", "recording", "recording"],
+        &["line", line],
+        &["help"],
+        &["--version"],
+    ] {
+        for (script, why) in [
+            ("exec \"$0\" \"$@\" >/dev/full", "the disk is full"),
+            (
+                "ulimit -f 0; trap '' XFSZ; exec \"$0\" \"$@\" >written",
+                "error number 27 of the system",
+            ),
+        ] {
+            let mut command = Command::new("sh");
+            command.args(["-c", script]).arg(&tool.program).args(words);
+            let output = context(command.stdin(Stdio::null()).output(), "running a shell")?;
+            let err = String::from_utf8_lossy(&output.stderr).into_owned();
+            let said = (output.status.code(), &err[..]);
+            let error = format!("error: cannot write the answer: {why}\n");
+            same(
+                &format!("{} {script}", shown(words)),
+                said,
+                (Some(3), &error),
+            )?;
+            let answer = Answer {
+                out: Vec::new(),
+                err: output.stderr,
+                status: 3,
+            };
+            tool.count(words, &answer)?;
+        }
+    }
+    context(fs::remove_file("written"), "removing a file")
+}
+
+// Anything at all.
+
+/// A text of a recording, of a list or of nothing, damaged or not.
+fn fuzzed_text(random: &mut Random) -> Vec<u8> {
+    let made = match random.below(3) {
+        0 => interleaved(random, 5, true),
+        _ => random_recording(random, Call::Declared, false),
+    };
+    let mut text = match random.below(3) {
+        0 => random_list(random, &made.guards),
+        _ => text_of_words(&made.words),
+    };
+    match random.below(8) {
+        0 => text = (0..random.below(60)).map(|_| random.draw() as u8).collect(),
+        1 => text.truncate(random.below(text.len() + 1)),
+        2 => damage_text(random, &mut text),
+        3 if !text.is_empty() => {
+            for _ in 0..random.between(1, 4) {
+                let place = random.below(text.len());
+                text[place] = random.draw() as u8;
+            }
+        }
+        _ => {}
+    }
+    text
+}
+
+/// A word with a byte changed, put in or taken away.
+fn mutated(random: &mut Random, word: &[u8]) -> Vec<u8> {
+    let mut word = word.to_vec();
+    // A word of a command line has no byte 0, and an LF would end a line of an answer.
+    let byte = match random.below(3) {
+        0 => random.between(11, 255) as u8,
+        _ => random.pick(b"abcdelrv-=01:. "),
+    };
+    let place = random.below(word.len() + 1);
+    match random.below(3) {
+        0 => word.insert(place, byte),
+        1 if place < word.len() => drop(word.remove(place)),
+        _ if place < word.len() => word[place] = byte,
+        _ => {}
+    }
+    word
+}
+
+fn fuzzed_words(random: &mut Random) -> Vec<Vec<u8>> {
+    const FILES: [&[u8]; 12] = [
+        b"one",
+        b"two",
+        b"one",
+        b"two",
+        b"three",
+        b"list",
+        b"missing",
+        b"folder",
+        b"",
+        b"-",
+        b"one/two",
+        b"\xFF\xFE",
+    ];
+    const OPTIONS: [&[u8]; 16] = [
+        b"--guards",
+        b"--guards",
+        b"--guards",
+        b"--guards=list",
+        b"--guards=one",
+        b"--guards=",
+        b"--guards=-",
+        b"--from",
+        b"--to",
+        b"--from=2",
+        b"--to=9",
+        b"--help",
+        b"-h",
+        b"--",
+        b"-x",
+        b"--version",
+    ];
+    const NUMBERS: [&[u8]; 6] = [b"1", b"3", b"12", b"0", b"400", b"1000000000"];
+    let command = random.pick(&COMMANDS).as_bytes();
+    let mut words = vec![match random.below(12) {
+        0 => mutated(random, command),
+        1 => random.pick(&OPTIONS).to_vec(),
+        _ => command.to_vec(),
+    }];
+    if command == b"line" && random.chance(700) {
+        let line = random_line(random);
+        let word = line.strip_suffix(b"\n").unwrap_or(&line);
+        words.push(word.iter().copied().filter(|byte| *byte > 10).collect());
+    }
+    let most = random.pick(&[1, 2, 2, 3, 4, 6]);
+    for _ in 0..random.below(most + 1) {
+        let word = match random.below(20) {
+            0..11 => random.pick(&FILES),
+            11..18 => random.pick(&OPTIONS),
+            _ => random.pick(&NUMBERS),
+        };
+        words.push(match random.below(25) {
+            0 => mutated(random, word),
+            _ => word.to_vec(),
+        });
+        if [&b"--guards"[..], b"--from", b"--to"].contains(&word) && random.chance(800) {
+            let behind = match word {
+                b"--guards" => random.pick(&FILES),
+                _ => random.pick(&NUMBERS),
+            };
+            words.push(behind.to_vec());
+        }
+    }
+    words
+}
+
+/// Random words, files and lists.
+fn fuzz(tool: &mut Tool, random: &mut Random) -> Done {
+    for entry in context(fs::read_dir("."), "listing the folder")? {
+        let path = context(entry, "listing the folder")?.path();
+        if path.is_file() {
+            context(fs::remove_file(path), "removing a file")?;
+        }
+    }
+    write("three", &text(C))?;
+    for _ in 0..FUZZED {
+        for name in ["one", "two", "list"] {
+            if random.chance(400) {
+                write(name, &fuzzed_text(random))?;
+            }
+        }
+        let words = fuzzed_words(random);
+        let mut log = fuzzed_text(random);
+        if words[0] == b"line" {
+            log = (0..random.below(5))
+                .flat_map(|_| random_line(random))
+                .collect();
+        }
+        let input = match random.below(8) {
+            0 => Input::Closed,
+            1 => Input::Folder,
+            2 => Input::File(log),
+            _ => Input::Pipe(log),
+        };
+        let expected = reference(&words, &input);
+        let answer = tool.run(&words, &input)?;
+        let several = matches!(&words[0][..], b"verdict" | b"explain") && words.len() > 2;
+        if answer.status == 3 && !several && !answer.out.is_empty() {
+            let answer = shown_answer(&answer);
+            return Err(format!(
+                "{}: an answer and an error: {answer}",
+                shown(&words)
+            ));
+        }
+        same(
+            &shown(&words),
+            shown_answer(&answer),
+            shown_answer(&expected),
+        )?;
+        *tool.counts.entry((FUZZ.into(), String::new())).or_default() += 1;
     }
     Ok(())
 }
@@ -2604,12 +3952,13 @@ fn report(tool: &Tool) -> Done {
         }
         println!("{command}: {runs} runs; {}", counts.join("; "));
     }
-    let others = tool
-        .counts
-        .iter()
-        .filter(|((name, _), _)| !COMMANDS.contains(&&name[..]));
-    let runs: usize = others.map(|(_, count)| count).sum();
-    println!("other words: {runs} runs");
+    let runs_of = |others: &dyn Fn(&str) -> bool| -> usize {
+        let counts = tool.counts.iter().filter(|((name, _), _)| others(name));
+        counts.map(|(_, count)| count).sum()
+    };
+    let others = runs_of(&|name| !COMMANDS.contains(&name) && name != FUZZ);
+    println!("other words: {others} runs");
+    println!("{FUZZ}: {} runs", runs_of(&|name| name == FUZZ));
     for (line, count) in &tool.lines {
         if *count == 0 && tool.exempt.as_ref() != Some(line) {
             absent.push(line.to_string());
@@ -2624,6 +3973,7 @@ fn report(tool: &Tool) -> Done {
 fn test(program: &OsStr, seed: u64) -> Result<usize, String> {
     let program = context(fs::canonicalize(program), "finding the program")?;
     let _folder = Folder::enter()?;
+    let start = Instant::now();
     let mut tool = Tool {
         program,
         counts: BTreeMap::new(),
@@ -2653,19 +4003,47 @@ fn test(program: &OsStr, seed: u64) -> Result<usize, String> {
     random_recordings(&mut tool, random)?;
     random_pairs(&mut tool, random)?;
     random_long(&mut tool, random)?;
+    several(&mut tool, random)?;
+    inputs(&mut tool)?;
+    logs(&mut tool, random)?;
+    windows(&mut tool, random)?;
+    unwritable(&mut tool)?;
+    let compared: usize = tool.counts.values().sum();
+    println!(
+        "tool: {compared} runs in {:.1} s",
+        start.elapsed().as_secs_f64()
+    );
+    let start = Instant::now();
+    fuzz(&mut tool, random)?;
+    println!("tool: fuzz in {:.1} s", start.elapsed().as_secs_f64());
     report(&tool)?;
     Ok(tool.counts.values().sum())
 }
 
+/// Prints the reference's picture; the words are those of the tool.
+fn draw(words: &[OsString]) -> ExitCode {
+    let words: Vec<&[u8]> = words.iter().map(|word| word.as_bytes()).collect();
+    let answer = reference(&words, &Input::Nothing);
+    let printed = std::io::stdout().write_all(&answer.out);
+    eprint!("{}", String::from_utf8_lossy(&answer.err));
+    match printed.is_ok() && answer.status == 0 {
+        true => ExitCode::SUCCESS,
+        false => ExitCode::FAILURE,
+    }
+}
+
 fn main() -> ExitCode {
-    let mut arguments = std::env::args_os().skip(1);
-    let program = arguments.next().expect("the path of the program");
-    let seed = arguments.next().map_or(DEFAULT_SEED, |seed| {
+    let arguments: Vec<OsString> = std::env::args_os().skip(1).collect();
+    let program = arguments.first().expect("the path of the program");
+    if program == "draw" {
+        return draw(&arguments);
+    }
+    let seed = arguments.get(1).map_or(DEFAULT_SEED, |seed| {
         let seed = seed.to_str().and_then(|seed| seed.parse().ok());
         seed.expect("the seed is a number")
     });
     println!("tool: seed {seed}");
-    match test(&program, seed) {
+    match test(program, seed) {
         Ok(runs) => {
             println!("tool: {runs} runs, all as the reference");
             ExitCode::SUCCESS

@@ -1,2 +1,0 @@
--- Laws of texts that are the same.
-pub mod Laws

@@ -1,2 +1,0 @@
--- Laws of a text with numbers in it.
-mod Laws

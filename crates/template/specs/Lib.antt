@@ -1,2 +1,0 @@
--- What a reader must believe of a text with numbers in it.
-pub mod Template

@@ -1,0 +1,2 @@
+-- A text that stands whole in a buffer of its own.
+mod Laws
