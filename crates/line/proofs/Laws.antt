@@ -1,23 +1,19 @@
 -- Laws of lines: how many bytes there are, the line of fields with low digits alone, and the fields written.
-use Prim.Native.Nat.{ℕ, _+_}
+use Prim.Native.Nat.{ℕ}
 use mathlib.Core.Path.{_≡_, refl}
 use mathlib.Core.List.{List, [], _++_}
 use lib.ListN.{length, replicate, length-append}
 use Rattle.digits.specs.Digits.{digits, pasted}
 use Rattle.digits.proofs.Writing.{length-digits, digits-low, pasted-next}
-use Rattle.reply.specs.declared.Reply.{Reply}
 use Rattle.line.specs.declared.Fields.{Fields}
 use Rattle.line.specs.declared.LineMark.{LineMark}
 use Rattle.line.specs.declared.LineMark.the-variants as line-mark
-use Rattle.line.specs.Line.{kindWidth, placeWidth, threadWidth, locksWidth, threadAt, beginAt, commitAt, locksAt, markField, heldMark, heldFields, lineLength, replyFields, fieldsLine, verdictLine}
+use Rattle.line.specs.Line.{kindWidth, placeWidth, threadWidth, locksWidth, threadAt, beginAt, commitAt, locksAt, markField, heldMark, heldFields, lineLength, fieldsLine}
 
 -- the bytes of a line
 pub length-fields-line : (f : Fields) → length (fieldsLine f) ≡ lineLength
 unfolding fieldsLine
 length-fields-line f = simp (length-append, length-digits)
-
-pub length-verdict-line : (r : Reply) (n : ℕ) → length (verdictLine r n) ≡ lineLength
-length-verdict-line r n = length-fields-line (replyFields r n)
 
 held-mark : (m : LineMark) → digits placeWidth (markField placeWidth (heldMark m)) ≡ digits placeWidth (markField placeWidth m)
 held-mark (line-mark.At i) = digits-low placeWidth i

@@ -3,11 +3,9 @@ use Prim.Native.Nat.{ℕ, _≤_, _<_}
 use mathlib.Core.Path.{_≡_, refl, sym, ap, _∙_}
 use mathlib.Core.Bool.{Bool, true, false, not}
 use mathlib.Core.List.{List}
-use native.Mathlib.Omega.{arith}
 use borrow.Author.Tests.{lt-ltb, le-ltb, ltb-false, not-true, not-false}
 use lib.Dec.{ltb}
-use lib.ListN.{length, take, drop, length-append}
-use lib.Seq.{take-at}
+use lib.ListN.{length}
 use Rattle.laws.proofs.Logic.{never, by-test}
 use Rattle.frame.specs.Refusal.{refusedAt}
 use Rattle.frame.specs.declared.Refusal.{Refusal}
@@ -25,8 +23,7 @@ use Rattle.reply.specs.declared.Verdict.the-variants as verdict
 use Rattle.pass.specs.Pass.{fullSets, judgement, openAtEnd}
 use Rattle.serial.specs.Order.{Closed}
 use Rattle.orderlaws.proofs.Order.{closed-open}
-use Rattle.order.specs.Order.{reducibleReply, irreducible, closedReply, replyBy, outAfter, onList, replyUnder}
-use Rattle.order.specs.declared.OrderReply.{OrderReply}
+use Rattle.order.specs.Order.{reducibleReply, irreducible, closedReply, replyBy, onList, replyUnder}
 use Rattle.order.specs.declared.OrderReply.the-variants as order
 
 -- a reply that passes the test
@@ -98,14 +95,3 @@ accepted-under short j list ws room n e = go (guardsUnder j list .reply) e
     go : (q : GuardsReply) → onList q (replyBy short (guardsUnder j list .table) ws room) ≡ order.Written n → Accepted (guardsUnder j list .table) ws room n
     go (guards.Lines m) t = accepted short (guardsUnder j list .table) ws room n t
     go (guards.Refused x) t = never (cc)
-
--- What is written, an element for each frame, stands first in the buffer.
-pub first-written : {A : Type 0} (short : Refusal) (j : Judgement) (list ws : List ℕ) (xs out : List A) {q : OrderReply} {n : ℕ} {left : List A}
-    → (Accepted (guardsUnder j list .table) ws (length out) n → length xs ≡ length ws) → q ≡ replyUnder short j list ws (length out)
-    → left ≡ outAfter (replyUnder short j list ws (length out)) xs out → q ≡ order.Written n
-    → (n ≤ length left) × (length ws ≤ length (take n left)) × (take n left ≡ xs)
-first-written short j list ws xs out {n = n} f e l w =
-    let x = accepted-under short j list ws (length out) n (sym e ∙ w) in
-    let o = rw (sym e ∙ w) at l in
-    let t = take-at xs (drop n out) n (f x ∙ sym (x .count)) in
-    rw o (rw (length-append xs (drop n out)) (omega (arith, f x, x .count)), rw t (omega (arith, f x)), t)

@@ -1,14 +1,12 @@
 -- Laws of written text: nothing, one byte, one text behind another, and a text that there is room for.
 use Prim.Native.Nat.{ℕ, zero, suc, _+_, _/_, _%_, _<_, _≤_}
 use mathlib.Core.Path.{_≡_, refl, sym, ap, _∙_}
-use mathlib.Core.Bool.{Bool, true, false}
 use mathlib.Core.List.{List, [], _∷_, _++_}
 use native.Mathlib.Omega.{arith}
 use native.Mathlib.Numerals.{add-one}
-use lib.Dec.{ltb}
 use lib.ListN.{length, set, take, drop, length-set}
 use lib.Seq.{append-snoc, sets, sets-eq}
-use borrow.Author.Tests.{lt-ltb, le-ltb, ltb-true, ltb-false, ne-eqb}
+use borrow.Author.Tests.{lt-ltb, le-ltb, ne-eqb}
 use Rattle.laws.proofs.Lists.{drop-stored}
 use Rattle.output.specs.Output.{after, behind, written, decimalDigits}
 
@@ -24,13 +22,6 @@ after-room n at h = rw (lt-ltb at n h) (sym (add-one at))
 pub after-full : (n at : ℕ) → n ≤ at → after n at ≡ at
 unfolding after
 after-full n at h = rw (le-ltb at n h)
-
-pub after-within : (n at : ℕ) → at ≤ n → after n at ≤ n
-after-within n at h = go (ltb at n) refl
-  where
-    go : (t : Bool) → ltb at n ≡ t → after n at ≤ n
-    go true e = rw (after-room n at (ltb-true at n e)) (omega (arith, ltb-true at n e))
-    go false e = rw (after-full n at (ltb-false at n e)) h
 
 pub length-written : (b : List ℕ) (at : ℕ) (t : List ℕ) → length (written b at t) ≡ length b
 unfolding written
@@ -78,15 +69,6 @@ digits-none (suc k) v h = let e : v ≡ 0 = omega arith in rw e
 pub digits-full : (k v : ℕ) → k ≡ 0 → decimalDigits k v ≡ []
 unfolding decimalDigits
 digits-full k v e = rw e
-
--- the place stays inside the buffer
-pub behind-within : (n at : ℕ) (t : List ℕ) → at ≤ n → behind n at t ≤ n
-unfolding behind
-behind-within n at [] h = h
-behind-within n at (c ∷ t) h = behind-within n (after n at) t (after-within n at h)
-
-pub put-within : {b : List ℕ} {at : ℕ} {t b' : List ℕ} {p : ℕ} → Put b at t b' p → at ≤ length b → p ≤ length b'
-put-within {b} {at} {t} x h = rw (x .place, x .contents, length-written b at t) (behind-within (length b) at t h)
 
 -- where there is room for a text, the place is behind its last byte
 pub behind-room : (n at : ℕ) (t : List ℕ) → at + length t ≤ n → behind n at t ≡ at + length t

@@ -4,9 +4,7 @@ use guards::GuardsReply;
 use guards::Judgement;
 use text::ReadReply;
 ghost use mathlib.Core.Path.{_≡_};
-ghost use lib.Dec.{ltb};
 ghost use lib.ListN.{length};
-ghost use Rattle.line.specs.Line.{lineLength};
 ghost use Rattle.text.specs.Text.{readReply, readWords};
 ghost use Rattle.guards.specs.Guards.{guardsRead};
 ghost use Rattle.guards.specs.declared.Judgement.the-variants.{Declared};
@@ -14,19 +12,10 @@ ghost use Rattle.verdict.specs.Verdict.{verdictUnder, inferredReply};
 ghost use Rattle.trace.specs.Trace.{readAnswer, guardsAnswer, kindAnswer, lineAfter, setsAfter};
 ghost use Rattle.answer.specs.Answer.{textJudged};
 
-// Whether a line buffer of so many bytes is too short.
-fn too_short(room: usize) -> bool
-    ensures { λ r. ⌜ r ≡ ltb room lineLength ⌝ }
-{
-    room < line::LINE
-}
+// The bytes of a verdict line, and the kind where a line buffer has fewer: 80 hexadecimal plus 17.
+const LINE: usize = line::LINE;
 
-// The kind where it is: 80 hexadecimal plus 17.
-fn short_kind() -> u8
-    ensures { λ k. ⌜ k ≡ 145 ⌝ }
-{
-    145
-}
+const SHORT: u8 = 145;
 
 // The planner's entry: recording text in, verdict line out, guards inferred.
 #[no_mangle]
@@ -34,8 +23,8 @@ pub extern "C" fn trace_check(text: &[u8], line: &mut [u8]) -> u8
     ensures kind { λ k. ⌜ k ≡ kindAnswer (textJudged (now (text .entry)) .reply) (length (now (line .entry))) ⌝ }
     ensures contents { λ k. ⌜ now (line .exit) ≡ lineAfter (textJudged (now (text .entry)) .reply) (textJudged (now (text .entry)) .frames) (now (line .entry)) ⌝ }
 {
-    if too_short(line.len()) {
-        return short_kind();
+    if line.len() < LINE {
+        return SHORT;
     }
     let j = answer::judge_text(text);
     let r = j.reply;
@@ -74,8 +63,8 @@ pub extern "C" fn trace_declared(list: &[u8], words: &[u32], line: &mut [u8]) ->
     ensures kind { λ k. ⌜ k ≡ kindAnswer (verdictUnder Declared (now (list .entry)) (now (words .entry))) (length (now (line .entry))) ⌝ }
     ensures contents { λ k. ⌜ now (line .exit) ≡ lineAfter (verdictUnder Declared (now (list .entry)) (now (words .entry))) (length (now (words .entry))) (now (line .entry)) ⌝ }
 {
-    if too_short(line.len()) {
-        return short_kind();
+    if line.len() < LINE {
+        return SHORT;
     }
     let r = verdict::judge(Judgement::Declared, list, words);
     answer::answer(line, r, (words.len() % 4294967296) as u32)
@@ -89,8 +78,8 @@ pub extern "C" fn trace_inferred(words: &[u32], sets: &mut [u64], line: &mut [u8
     ensures contents { λ k. ⌜ now (line .exit) ≡ lineAfter (inferredReply (now (words .entry)) (length (now (sets .entry)))) (length (now (words .entry))) (now (line .entry)) ⌝ }
 {
     let room = line.len();
-    if too_short(room) {
-        return short_kind();
+    if room < LINE {
+        return SHORT;
     }
     let judged = verdict::inferred(words, sets);
     answer::answer(line, judged, (words.len() % 4294967296) as u32)

@@ -1,6 +1,6 @@
 use mathlib.Core.Path.{sym, _∙_}
 use lib.ListN.{length}
-use borrow.Author.Tests.{ltb-false}
+use borrow.Author.Tests.{lt-ltb, le-ltb}
 use Rattle.reply.specs.declared.Verdict.the-variants.{Reducible}
 use Rattle.verdict.proofs.Laws.{inferred-fits}
 use Rattle.trace.proofs.Laws.{frames-whole}
@@ -8,16 +8,10 @@ use borrow.Author.Needs.{needs}
 use Rattle.trace.proofs.trace_inferred.Statement.{statement}
 use Rattle.trace.proofs.trace_inferred.Tie as tie
 
-too-short-requires : tie.Need-too-short-requires
-too-short-requires c κs = search needs
-
-short-kind-requires : tie.Need-short-kind-requires
-short-kind-requires c κs = search needs
-
 returns : tie.Need-returns
 returns c =
-    let t = sym (c .before .before .too-short .ensures) ∙ c .before .if1 .taken in
-    (rw t (c .short-kind .ensures), (rw t, rw t))
+    let t = lt-ltb _ _ (c .if1 .taken) in
+    (simp t, (simp t, simp t))
 
 inferred-requires : tie.Need-inferred-requires
 inferred-requires c κs = search needs
@@ -26,8 +20,7 @@ cast-answer : tie.Need-cast-answer
 cast-answer c = search needs
 
 answer-requires : tie.Need-answer-requires
-answer-requires c κs =
-    ltb-false _ _ (sym (c .before .before .before .before .before .before .too-short .ensures) ∙ c .before .before .before .before .before .if1 .left)
+answer-requires c κs = search needs
 
 same-length : tie.Need-same-length
 same-length c = search needs
@@ -38,8 +31,8 @@ same-length-2 c = search needs
 returns-2 : tie.Need-returns-2
 returns-2 c =
     let d = c .before .before .before .before .before .before .inferred in
-    let p = c .before .before .before .before .before .before .before .before .before .before .before .before .before .args in
-    let t = sym (c .before .before .before .before .before .before .before .before .before .too-short .ensures) ∙ c .before .before .before .before .before .before .before .before .if1 .left in
+    let p = c .before .before .before .before .before .before .before .before .before .before .before .before .args in
+    let t = le-ltb _ _ (c .before .before .before .before .before .before .before .before .if1 .left) in
     let a = c .before .before .answer .ensures in
     let n = length (p .words .now) in
     let w = frames-whole (d .result) n (λ e. inferred-fits (p .words .now) (length (p .sets .now)) Reducible (sym (d .ensures .0) ∙ e)) in
@@ -49,8 +42,6 @@ pub trace-inferred-spec : {M : Type 1} → statement M
 trace-inferred-spec =
     tie.close
     (tie.spec
-    too-short-requires
-    short-kind-requires
     returns
     inferred-requires
     cast-answer
