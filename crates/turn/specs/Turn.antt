@@ -2,6 +2,7 @@
 -- `guards` has the code of each variable's guard (crate guards).
 -- Quotes are from docs/FORMAT.md.
 use Prim.Native.Nat.{ℕ}
+use mathlib.Core.Path.{_≡_}
 use mathlib.Core.List.{List}
 use lib.ListN.{getD}
 use Rattle.frame.specs.declared.Frame.{Frame}
@@ -45,8 +46,8 @@ turned guards i f s j =
     byOutcome (stepFrame f s .outcome) (stepFrame f s .state) j
     (byVerdict (judgeFrame guards i f s j .verdict) (stepFrame f s .state) (judgeFrame guards i f s j .judging))
 
--- After a frame that leads on, the table of held sets is that of the owners again.
-abbrev pub FollowsAfter : Turn → List ℕ → List ℕ → Type 0
-FollowsAfter turn.Next held owners = Follows held owners
-FollowsAfter (turn.Refused r) held owners = Unit {0}
-FollowsAfter (turn.Wrong v) held owners = Unit {0}
+-- The table of held sets after a frame: that of the owners again where the frame leads on, and else as it was before.
+abbrev pub FollowsAfter : Turn → List ℕ → List ℕ → List ℕ → Type 0
+FollowsAfter turn.Next before held owners = Follows held owners
+FollowsAfter (turn.Refused r) before held owners = held ≡ before
+FollowsAfter (turn.Wrong v) before held owners = held ≡ before

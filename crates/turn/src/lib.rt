@@ -37,7 +37,7 @@ pub fn judge_frame(
 ) -> Turn
     requires { ⌜ InRange f ⌝ ∗ ⌜ i < 4294967295 ⌝ ∗ ⌜ Follows (now held) (now owners) ⌝ }
     ensures rules { λ r. ⌜ turned (now (guards .entry)) i f (stateOf (now (owners .entry)) (now (counts .entry)) (now (depths .entry))) (judgingOf (now (begins .entry)) (now (commits .entry)) (now (sets .entry))) ≡ turnedTo r (stateOf (now (owners .exit)) (now (counts .exit)) (now (depths .exit))) (judgingOf (now (begins .exit)) (now (commits .exit)) (now (sets .exit))) ⌝ }
-    ensures locks { λ r. ⌜ FollowsAfter r (now (held .exit)) (now (owners .exit)) ⌝ }
+    ensures locks { λ r. ⌜ FollowsAfter r (now (held .entry)) (now (held .exit)) (now (owners .exit)) ⌝ }
 {
     let thread = f.thread;
     let t = thread.0 as usize;

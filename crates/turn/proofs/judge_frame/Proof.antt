@@ -1,5 +1,5 @@
 -- Each return is a law of proofs/Held at the values that the code has there.
-use mathlib.Core.Path.{_∙_}
+use mathlib.Core.Path.{refl, _∙_}
 use Rattle.turn.proofs.Held.{frame-held, turn-refused, turn-judged}
 use borrow.Author.Needs.{needs}
 use Rattle.turn.proofs.judge_frame.Statement.{statement}
@@ -28,7 +28,7 @@ returns c =
     let a = c .before .before .before .before .before .before .before .before .before .before .args in
     let p = c .before .before .before .before .before .before .before .before .before .before .pre in
     let told = c .before .enum-told .given in
-    (turn-refused (a .guards .now) (a .counts .now) (a .depths .now) (p .1 .1) (p .0) _ _ (rw (told .1) at (c .before .before .before .step .ensures)) ∙ rw (c .outcome-refusal .ensures, told .1), tt)
+    (turn-refused (a .guards .now) (a .counts .now) (a .depths .now) (p .1 .1) (p .0) _ _ (rw (told .1) at (c .before .before .before .step .ensures)) ∙ rw (c .outcome-refusal .ensures, told .1), refl)
 
 operation-of-requires : tie.Need-operation-of-requires
 operation-of-requires c κs = search needs
@@ -61,7 +61,7 @@ returns-3 c =
     let a = c .before .before .before .before .before .before .before .before .before .before .before .before .before .before .before .before .before .before .before .args in
     let p = c .before .before .before .before .before .before .before .before .before .before .before .before .before .before .before .before .before .before .before .pre in
     let g = rw (c .before .before .before .before .before .before .before .before .before .before .o .given .1) at (c .before .before .before .before .before .before .before .before .before .before .before .before .step .ensures) in
-    (turn-judged (a .guards .now) (a .counts .now) (a .depths .now) (p .1 .1) (p .0) g _ _ (c .before .before .before .before .before .before .before .before .operation-of .ensures) (rw (c .before .v .given .1) at (c .before .before .before .judge .ensures .0)), tt)
+    (turn-judged (a .guards .now) (a .counts .now) (a .depths .now) (p .1 .1) (p .0) g _ _ (c .before .before .before .before .before .before .before .before .operation-of .ensures) (rw (c .before .v .given .1) at (c .before .before .before .judge .ensures .0)), rw (c .before .v .given .1) at (c .before .before .before .judge .ensures .1))
 
 pub judge-frame-spec : {M : Type 1} → statement M
 judge-frame-spec =
