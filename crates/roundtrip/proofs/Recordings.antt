@@ -40,10 +40,10 @@ line-bytes (w ∷ ws) (suc i) h =
     rw (n, drop-append-add (wordLine w) (linesOf ws) (9 * i)) (line-bytes ws i (omega arith))
 
 -- words that fit 32 bits
-abbrev Narrow : List ℕ → Type 0
+abbrev pub Narrow : List ℕ → Type 0
 Narrow ws = (k : ℕ) → k < length ws → getD ws k 0 < 4294967296
 
-line-at : (ws : List ℕ) → Narrow ws → (i : ℕ) → i < length ws → lineOf (linesOf ws) (9 * i) ≡ line.Word (getD ws i 0)
+pub line-at : (ws : List ℕ) → Narrow ws → (i : ℕ) → i < length ws → lineOf (linesOf ws) (9 * i) ≡ line.Word (getD ws i 0)
 line-at ws small i h = line-read (linesOf ws) (9 * i) (getD ws i 0) (small i h) (line-bytes ws i h)
 
 -- the lines from line i on are read, where as many more may come

@@ -1,0 +1,2 @@
+-- The second term over what is handed in, as types. Their proofs are in proofs/.
+pub mod VerdictLaws
