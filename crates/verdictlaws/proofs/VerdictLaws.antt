@@ -110,3 +110,48 @@ inferred-is-some-list = (
   λ ws m h. (λ r. to-list ws (sym (with-room ws m h) ∙ r), λ a. with-room ws m h ∙ from-list ws a),
   λ list ws. (λ r. to-list ws (sym (on-words list ws) ∙ r), λ a. on-words list ws ∙ from-list ws a),
 )
+
+-- the kind of a reply is 0 exactly if it is reducible
+kind-zero : (r : Reply) → replyKind r ≡ 0 → r ≡ reducible
+kind-zero (reply.Refused x) e = absurd (omega arith)
+kind-zero (reply.Judged verdict.Reducible) e = refl
+kind-zero (reply.Judged (verdict.Violated v)) e = absurd (some (v .kind) e)
+  where
+    some : (k : Kind) → kindNumber k ≡ 0 → ⊥
+    some kind.GuardNotHeld z = omega arith
+    some kind.UnprotectedAfterCommit z = omega arith
+    some kind.AcquireAfterCommit z = omega arith
+    some kind.SetEmptied z = omega arith
+
+-- with room for the line the answer is the kind
+with-line : (r : Reply) (room : ℕ) → lineLength ≤ room → kindAnswer r room ≡ replyKind r
+with-line r room h = rw (le-ltb room lineLength h)
+
+-- the reply to a text that is read is the inferred verdict on the words of its lines
+text-read : (s : List ℕ) (n : ℕ) → scanned s ≡ read.Lines n → textJudged s .reply ≡ verdictUnder judgement.Inferred [] (wordsTo s n)
+unfolding textJudged
+text-read s n e = rw e
+
+-- a text with a reducible recording is read
+text-reducible : (s : List ℕ) → textJudged s .reply ≡ reducible → (n : ℕ) × (scanned s ≡ read.Lines n)
+unfolding textJudged
+text-reducible s e = go (scanned s) refl
+  where
+    go : (q : ReadReply) → scanned s ≡ q → (n : ℕ) × (scanned s ≡ read.Lines n)
+    go (read.Lines n) f = (n, f)
+    go (read.Refused x) f = let z : reply.Refused x ≡ reducible = rw f at e in never (cc)
+
+-- The same of the planner's call.
+pub check-is-some-list : CheckIsSomeList
+check-is-some-list s room h = (
+  λ e.
+      let r : textJudged s .reply ≡ reducible = kind-zero (textJudged s .reply) (sym (with-line (textJudged s .reply) room h) ∙ e) in
+      let q = text-reducible s r in
+      (q .0, q .1, inferred-is-some-list .1 [] (wordsTo s (q .0)) .0 (sym (text-read s (q .0) (q .1)) ∙ r)),
+  λ (n, e, a). with-line (textJudged s .reply) room h ∙ ap replyKind (text-read s n e ∙ inferred-is-some-list .1 [] (wordsTo s n) .1 a),
+)
+
+-- And its reply is that of the rules.
+pub check-is-of-the-rules : CheckIsOfTheRules
+check-is-of-the-rules s n e sound =
+    rw (text-read s n e, on-words [] (wordsTo s n)) (inferred-is-of-the-rules (wordsTo s n) variableCount sound (omega arith))
