@@ -19,7 +19,6 @@ use Rattle.digits.proofs.Writing.{length-lines}
 use Rattle.text.specs.Text.{wordIn, wordAt}
 use Rattle.guards.specs.Guards.{guardOf, guardVariable, guardLock, guardsRead, listedGuard, unprotectedCode}
 use Rattle.guards.specs.Listed.{Listed}
-use Rattle.guards.specs.declared.Guard.{Guard}
 use Rattle.guards.specs.declared.Guard.the-variants.{Locked, Unprotected, Inferred}
 use Rattle.guards.specs.declared.GuardsReply.the-variants as reply
 use Rattle.guards.proofs.Laws.{table-length, named-guard}

@@ -1,25 +1,20 @@
 -- The second term over what is handed in. In this order: the verdicts by their tables; the claim of guard lists, from a choice of locks to a
 -- list and back; the planner's call.
-use Prim.Native.Nat.{ℕ, _≤_, _<_}
-use mathlib.Core.Path.{_≡_, refl, sym, ap, _∙_, subst}
-use mathlib.Core.Logic.{_↔_}
+use Prim.Native.Nat.{ℕ, _≤_}
+use mathlib.Core.Path.{_≡_, refl, sym, ap, _∙_}
 use mathlib.Core.List.{List, []}
 use native.Mathlib.Omega.{arith}
 use borrow.Author.Tests.{le-ltb}
 use lib.ListN.{getD}
 use Rattle.laws.proofs.Logic.{never}
 use Rattle.frame.specs.Limits.{variableCount}
-use Rattle.frame.specs.declared.Lock.{Lock}
 use Rattle.text.specs.Text.{scanned, wordsTo}
 use Rattle.text.specs.declared.ReadReply.{ReadReply}
 use Rattle.text.specs.declared.ReadReply.the-variants as read
-use Rattle.guards.specs.Guards.{guardsRead, listedGuard}
-use Rattle.guards.specs.declared.Guard.the-variants as guard
+use Rattle.guards.specs.Guards.{guardsRead}
 use Rattle.guards.specs.declared.GuardsReply.the-variants as guards
 use Rattle.guards.specs.declared.Judgement.the-variants as judgement
 use Rattle.guards.proofs.Named.{listed-guard}
-use Rattle.soundness.specs.Soundness.{checkReply, start}
-use Rattle.soundness.specs.declared.CheckReply.the-variants as check
 use Rattle.reply.specs.Reply.{kindNumber, reducible}
 use Rattle.reply.specs.declared.Kind.{Kind}
 use Rattle.reply.specs.declared.Kind.the-variants as kind
@@ -31,10 +26,10 @@ use Rattle.pass.proofs.Judgement.{judgement-sound}
 use Rattle.verdict.specs.Verdict.{verdictUnder, withTable, inferredEnd, inferredReply}
 use Rattle.verdict.proofs.Laws.{own-table}
 use Rattle.line.specs.Line.{lineLength}
-use Rattle.answer.specs.Answer.{replyKind, onRead, textJudged}
+use Rattle.answer.specs.Answer.{replyKind, textJudged}
 use Rattle.trace.specs.Trace.{kindAnswer}
 use Rattle.rules.specs.Choice.{Choice, Reducible}
-use Rattle.rules.specs.Figures.{AllStep, startStore, guarding, OfTheRules}
+use Rattle.rules.specs.Figures.{guarding}
 use Rattle.rules.proofs.Choice.{inferred-verdict-is-some-choice}
 use Rattle.rules.proofs.Figures.{verdict-is-of-the-rules, inferred-is-of-the-rules}
 use Rattle.verdictlaws.specs.VerdictLaws.{Accessed, SomeList, InferredIsSomeList, CheckIsSomeList, CheckIsOfTheRules}
@@ -47,7 +42,7 @@ with-list : (list ws : List ℕ) (n : ℕ) → guardsRead list .reply ≡ guards
 unfolding verdictUnder
 with-list list ws n e = rw e
 
--- the inferred verdict is the same with every table that has room, and on words alone
+-- the inferred verdict is the same with every table that has room, and with none
 with-room : (ws : List ℕ) (m : ℕ) → variableCount ≤ m → inferredReply ws m ≡ inferredReply ws variableCount
 unfolding inferredReply
 with-room ws m h = go (inferredEnd ws .reply)

@@ -47,8 +47,8 @@ pub record SomeList (ws : List ℕ) : Type 0 where
   pub names : NamesAccessed list n ws
   pub judged : verdictUnder judgement.Declared list ws ≡ reducible
 
--- Term 2's second sentence: of the inferred verdict with a table of m candidate sets, and of the verdict on words alone, for which no list is
--- read.
+-- Term 2's second sentence: of the inferred verdict with a table of m candidate sets, and of the one with none, whatever list stands there, as
+-- it is not read.
 abbrev pub InferredIsSomeList : Type 0
 InferredIsSomeList =
     ((ws : List ℕ) (m : ℕ) → variableCount ≤ m → (inferredReply ws m ≡ reducible ↔ SomeList ws))
