@@ -2,15 +2,16 @@
 -- to one store or goes wrong by one kind; recordings by that function; the pass and the rules, with the claim of any guards; guards that agree
 -- on the variables of frames, with the claims of declared and of inferred guards.
 use Prim.Native.Nat.{ℕ, suc, _+_, _≤_, _<_}
-use mathlib.Core.Path.{_≡_, refl, sym, ap, _∙_, fun-ext}
+use mathlib.Core.Path.{_≡_, refl, sym, ap, subst, _∙_, fun-ext}
 use mathlib.Core.Bool.{cond}
 use mathlib.Core.Logic.{_↔_}
 use mathlib.Core.List.{List, [], _∷_}
 use native.Mathlib.Omega.{arith}
 use native.Mathlib.Nat.{zero-add}
+use native.Mathlib.Numerals.{add-one}
 use borrow.Author.Tests.{eq-eqb, ne-eqb, le-ltb, le-leb, lt-leb}
 use lib.Dec.{eqb, leb}
-use lib.ListN.{getD, length-replicate, getD-replicate}
+use lib.ListN.{getD, drop, length-replicate, getD-replicate}
 use Rattle.guards.specs.declared.Judgement.the-variants.{Declared}
 use Rattle.verdict.specs.Verdict.{verdictUnder, withTable, inferredReply}
 use Rattle.turn.specs.Turn.{judgeFrame}
@@ -35,16 +36,20 @@ use Rattle.soundness.proofs.Laws.{check-short, sound-fits, First, sound-first}
 use Rattle.reply.specs.Reply.{reducible, violated}
 use Rattle.reply.specs.declared.Kind.{Kind}
 use Rattle.reply.specs.declared.Kind.the-variants.{GuardNotHeld, UnprotectedAfterCommit, AcquireAfterCommit, SetEmptied}
+use Rattle.reply.specs.declared.Mark.{Mark}
+use Rattle.reply.specs.declared.Mark.the-variants.{At, Absent}
 use Rattle.reply.specs.declared.Reply.{Reply}
 use Rattle.reply.specs.declared.Reply.the-variants as reply
 use Rattle.reply.specs.declared.Violation.{Violation}
-use Rattle.instrumented.specs.Rules.{Judging}
-use Rattle.rules.specs.Figures.{Acts, Stage, Outside, PreCommit, PostCommit, Store, putStage, putLocks, depth, shared, Accesses, reads, writes, Steps, ins-access-protected, ins-race-commit, ins-race-outside, ins-acquire, ins-release-commit, ins-release-outside, ins-reentrant-acquire, ins-reentrant-release, ins-enter, ins-nested-enter, ins-exit, ins-nested-exit, ins2-access, Wrong, wrong-access-protected, wrong-race-violate, wrong-acquire, wrong2-race, AllStep, end, step, WrongAt, here, later, startStore, guarding, OfTheRules, VerdictIsOfTheRules, DeclaredIsOfTheRules, InferredIsOfTheRules}
+use Rattle.instrumented.specs.Rules.{Judging, phaseAt, beginMark, commitMark}
+use Rattle.rules.specs.Figures.{Acts, Stage, Outside, PreCommit, PostCommit, Store, putStage, putLocks, depth, shared, Accesses, reads, writes, Steps, ins-access-protected, ins-race-commit, ins-race-outside, ins-acquire, ins-release-commit, ins-release-outside, ins-reentrant-acquire, ins-reentrant-release, ins-enter, ins-nested-enter, ins-exit, ins-nested-exit, ins2-access, Wrong, wrong-access-protected, wrong-race-violate, wrong-acquire, wrong2-race, AllStep, end, step, WrongAt, here, later, Reaches, none, more, startStore, guarding, InBlock, Committed, MarkIs, guardLocks, lockSet, ToldBy, OfTheRules, VerdictIsOfTheRules, DeclaredIsOfTheRules, InferredIsOfTheRules}
 use Rattle.laws.proofs.Logic.{never}
-use Rattle.laws.proofs.Lists.{getD-filled}
+use Rattle.laws.proofs.Lists.{getD-filled, rest-of}
 use Rattle.pass.proofs.Judgement.{judgement-pass}
 use Rattle.rules.proofs.Acts.{acted, acts-to, frame-acts}
-use Rattle.rules.proofs.Store.{storeOf, Sized, Told, goes, wrong, frame-told}
+use Rattle.rules.proofs.Store.{storeOf, Sized}
+use Rattle.rules.proofs.Marks.{Knows, knows-next, begin-is, commit-is}
+use Rattle.rules.proofs.Told.{Told, goes, wrong, frame-told}
 
 -- What the rules make of an operation.
 data Result : Type 0 where
@@ -160,46 +165,89 @@ module _ (P : ℕ → Guard) where
   wrong-answer (here {s = s} {φ = φ} {f = f} d e r) = rw (d, wrong-rule P s φ (f .thread .0) r)
   wrong-answer (later {s = s} {φ = φ} {φ′ = φ′} {ws = ws} {f = f} d e r rest) = rw (d, steps-rule P s φ (f .thread .0) r) (ap onward (from e φ′ ws ∙ wrong-answer rest))
 
--- How a pass over sound frames ends, with what the rules say of them.
-data Ends (guards : List ℕ) (i : ℕ) (s : State) (j : Judging) (ws : List ℕ) : Type 0 where
-  all : judgeFrom guards i s j ws .reply ≡ reducible → AllStep (guarding guards) s (storeOf (s .depths) j) ws → Ends guards i s j ws
+-- How a pass over the frames from place i on of a sound recording ends, with what the rules say of them.
+data Ends (guards whole : List ℕ) (i : ℕ) (s : State) (j : Judging) (ws : List ℕ) : Type 0 where
+  all : judgeFrom guards i s j ws .reply ≡ reducible → AllStep (guarding guards) s (storeOf (s .depths) j) ws → Ends guards whole i s j ws
   some : (m : ℕ) (v : Violation) → judgeFrom guards i s j ws .reply ≡ violated v → v .frame ≡ i + m
-      → WrongAt (guarding guards) s (storeOf (s .depths) j) ws m (v .kind) → Ends guards i s j ws
+      → WrongAt (guarding guards) s (storeOf (s .depths) j) ws m (v .kind) → ToldBy (guarding guards) whole v → Ends guards whole i s j ws
+
+-- the violation that the pass names at a frame that goes wrong at place i, told by the rules from what the pass knows there
+abbrev named : List ℕ → ℕ → State → Judging → Frame → Kind → Violation
+named guards i s j f k = record {
+  kind = k;
+  frame = i;
+  thread = f .thread;
+  begin = beginMark (phaseAt (getD (s .depths) (f .thread .0) 0) (f .thread) j);
+  commit = commitMark (phaseAt (getD (s .depths) (f .thread .0) 0) (f .thread) j);
+  locks = lockSet (guarding guards) (storeOf (s .depths) j) (f .action);
+}
+
+told-here : (guards whole : List ℕ) (i w : ℕ) (ws : List ℕ) (s : State) (j : Judging) (f : Frame) (k : Kind) → Knows (guarding guards) whole i s j
+    → drop i whole ≡ w ∷ ws → decodeWord w ≡ decoded.Frame f → Wrong (guarding guards) s (storeOf (s .depths) j) (f .thread .0) (f .action) k
+    → ToldBy (guarding guards) whole (named guards i s j f k)
+told-here guards whole i w ws s j f k x e d r = record {
+  state = s;
+  store = storeOf (s .depths) j;
+  frame = f;
+  reached = x .reached;
+  word = ap decodeWord (rest-of whole i w ws e .1) ∙ d;
+  goes-wrong = r;
+  thread = refl;
+  begin = begin-is (guarding guards) whole x (f .thread);
+  commit = commit-is (guarding guards) whole x (f .thread);
+  locks = refl;
+}
 
 -- a pass over sound frames ends so
-ends : (guards : List ℕ) (i : ℕ) (s : State) (j : Judging) (ws : List ℕ) → checkFrom i s ws .reply ≡ check.Sound → Sized (s .depths) j → Ends guards i s j ws
+ends : (guards whole : List ℕ) (i : ℕ) (s : State) (j : Judging) (ws : List ℕ) → drop i whole ≡ ws → Knows (guarding guards) whole i s j
+    → checkFrom i s ws .reply ≡ check.Sound → Sized (s .depths) j → Ends guards whole i s j ws
 unfolding judgeFrom
-ends guards i s j [] c z = all refl end
-ends guards i s j (w ∷ ws) c z =
+ends guards whole i s j [] o x c z = all refl end
+ends guards whole i s j (w ∷ ws) o x c z =
     let q = sound-first i s w ws c in
-    told-case q (λ k. ends guards (i + 1) (q .next) k ws (q .rest)) (frame-told guards s (q .next) j i (q .frame) (q .level) z (decoded-in-range w (q .frame) (q .is)) (q .passes))
+    told-case q (λ k y. ends guards whole (i + 1) (q .next) k ws (rw (add-one i) (rest-of whole i w ws o .2)) y (q .rest))
+    (frame-told guards s (q .next) j i (q .frame) (q .level) z (decoded-in-range w (q .frame) (q .is)) (q .passes))
   where
     acts : (q : First i s w ws) → Acts s (q .frame .thread .0) (q .frame .action) (q .next)
     acts q = frame-acts (q .passes)
 
     rest-case : (q : First i s w ws) (k : Judging) → judgeFrom guards i s j (w ∷ ws) ≡ judgeFrom guards (i + 1) (q .next) k ws
         → Steps (guarding guards) s (storeOf (s .depths) j) (q .frame .thread .0) (q .frame .action) (storeOf (q .next .depths) k)
-        → Ends guards (i + 1) (q .next) k ws → Ends guards i s j (w ∷ ws)
-    rest-case q k on r (all e x) = all (ap (λ (y : Ended). y .reply) on ∙ e) (step (q .is) (acts q) r x)
-    rest-case q k on r (some m v e p x) = some (suc m) v (ap (λ (y : Ended). y .reply) on ∙ e) (omega arith) (later (q .is) (acts q) r x)
+        → Ends guards whole (i + 1) (q .next) k ws → Ends guards whole i s j (w ∷ ws)
+    rest-case q k on r (all e y) = all (ap (λ (y : Ended). y .reply) on ∙ e) (step (q .is) (acts q) r y)
+    rest-case q k on r (some m v e p y told) = some (suc m) v (ap (λ (y : Ended). y .reply) on ∙ e) (omega arith) (later (q .is) (acts q) r y) told
 
-    told-case : (q : First i s w ws) → ((k : Judging) → Sized (q .next .depths) k → Ends guards (i + 1) (q .next) k ws)
-        → Told (guarding guards) s (q .next .depths) j i (q .frame .thread .0) (q .frame .action) (judgeFrame guards i (q .frame) s j) → Ends guards i s j (w ∷ ws)
-    told-case q ih (goes {k = k} a r y) = rest-case q k (rw (q .is, a, q .passes)) r (ih k y)
-    told-case q ih (wrong {v = v} a p r) = some 0 v (rw (q .is, a, q .passes)) (omega arith) (here (q .is) (acts q) r)
+    told-case : (q : First i s w ws)
+        → ((k : Judging) → Knows (guarding guards) whole (i + 1) (q .next) k → Sized (q .next .depths) k → Ends guards whole (i + 1) (q .next) k ws)
+        → Told (guarding guards) s (q .next .depths) j i (q .frame .thread) (q .frame .action) (judgeFrame guards i (q .frame) s j) → Ends guards whole i s j (w ∷ ws)
+    told-case q ih (goes {k = k} a r y m) = rest-case q k (rw (q .is, a, q .passes)) r (ih k (knows-next (guarding guards) whole x o (q .is) (acts q) r m) y)
+    told-case q ih (wrong k a r) =
+        some 0 (named guards i s j (q .frame) k) (rw (q .is, a, q .passes)) (omega arith) (here (q .is) (acts q) r) (told-here guards whole i w ws s j (q .frame) k x o (q .is) r)
 
 -- the lists, the sizes and the store at the start
 start-sized : Sized (start .depths) (startJudging fullSets)
 unfolding start startJudging fullSets
-start-sized = record { depths-long = refl; commits-long = refl; sets-long = length-replicate variableCount allLocks }
+start-sized = record { depths-long = refl; begins-long = refl; commits-long = refl; sets-long = length-replicate variableCount allLocks }
 
 start-store : storeOf (start .depths) (startJudging fullSets) ≡ startStore
 unfolding start startJudging
 start-store = ap (λ (g : ℕ → Stage). record { stage = g; locks = λ x. getD fullSets x 0 }) (fun-ext λ u. rw (getD-filled threadCount u 0))
 
+-- what the pass knows there: no thread is in a block
+start-stage : (u : ℕ) → storeOf (start .depths) (startJudging fullSets) .stage u ≡ Outside
+start-stage u = ap (λ (φ : Store). φ .stage u) start-store
+
+start-knows : (guards ws : List ℕ) → Knows (guarding guards) ws 0 start (startJudging fullSets)
+start-knows guards ws = record {
+  reached = rw start-store none;
+  begun = λ u h. absurd (h (start-stage u));
+  done = λ u h. let y : Outside ≡ PostCommit = sym (start-stage u) ∙ h in never (cc);
+}
+
 -- a sound recording ends so from the start
-start-ends : (guards ws : List ℕ) → checkReply ws ≡ check.Sound → Ends guards 0 start (startJudging fullSets) ws
-start-ends guards ws e = ends guards 0 start (startJudging fullSets) ws (sym (check-short ws (sound-fits ws e)) ∙ e) start-sized
+start-ends : (guards ws : List ℕ) → checkReply ws ≡ check.Sound → Ends guards ws 0 start (startJudging fullSets) ws
+start-ends guards ws e =
+    ends guards ws 0 start (startJudging fullSets) ws refl (start-knows guards ws) (sym (check-short ws (sound-fits ws e)) ∙ e) start-sized
 
 -- the reply of its judgement
 judged-reply : (guards ws : List ℕ) → checkReply ws ≡ check.Sound → judgement guards fullSets ws .reply ≡ judgeFrom guards 0 start (startJudging fullSets) ws .reply
@@ -207,22 +255,26 @@ judged-reply guards ws e = ap (λ (x : Ended). x .reply) (judgement-pass guards 
 
 -- Term 2's first sentence: the verdict on a sound recording is that of the rules.
 pub verdict-is-of-the-rules : VerdictIsOfTheRules
-verdict-is-of-the-rules guards ws sound = (reducible-case (start-ends guards ws sound), λ i k. violated-case i k (start-ends guards ws sound))
+verdict-is-of-the-rules guards ws sound = (
+  reducible-case (start-ends guards ws sound),
+  λ i k. violated-case i k (start-ends guards ws sound),
+  λ v e. told-case v e (start-ends guards ws sound),
+)
   where
-    reducible-case : Ends guards 0 start (startJudging fullSets) ws → judgement guards fullSets ws .reply ≡ reducible ↔ AllStep (guarding guards) start startStore ws
+    reducible-case : Ends guards ws 0 start (startJudging fullSets) ws → judgement guards fullSets ws .reply ≡ reducible ↔ AllStep (guarding guards) start startStore ws
     reducible-case (all q x) = (λ r. rw start-store at x, λ y. judged-reply guards ws sound ∙ q)
-    reducible-case (some m v q p x) = (
+    reducible-case (some m v q p x told) = (
       λ r. let y : violated v ≡ reducible = sym (judged-reply guards ws sound ∙ q) ∙ r in never (cc),
       λ y. let b : first m (v .kind) ≡ fine = sym (wrong-answer (guarding guards) (rw start-store at x)) ∙ all-answer (guarding guards) y in never (cc),
     )
 
-    violated-case : (i : ℕ) (k : Kind) → Ends guards 0 start (startJudging fullSets) ws
+    violated-case : (i : ℕ) (k : Kind) → Ends guards ws 0 start (startJudging fullSets) ws
         → ((v : Violation) × (judgement guards fullSets ws .reply ≡ violated v) × (v .frame ≡ i) × (v .kind ≡ k)) ↔ WrongAt (guarding guards) start startStore ws i k
     violated-case i k (all q x) = (
       λ r. let y : violated (r .0) ≡ reducible = sym (r .1) ∙ judged-reply guards ws sound ∙ q in never (cc),
       λ y. let b : first i k ≡ fine = sym (wrong-answer (guarding guards) y) ∙ all-answer (guarding guards) (rw start-store at x) in never (cc),
     )
-    violated-case i k (some m v q p x) = (
+    violated-case i k (some m v q p x told) = (
       λ r.
           let e : violated (r .0) ≡ violated v = sym (r .1) ∙ judged-reply guards ws sound ∙ q in
           let u : r .0 ≡ v = cc in
@@ -234,6 +286,13 @@ verdict-is-of-the-rules guards ws sound = (reducible-case (start-ends guards ws 
           let a : m ≡ i = cc in
           (v, judged-reply guards ws sound ∙ q, p ∙ zero-add m ∙ a, cc),
     )
+
+    told-case : (v : Violation) → judgement guards fullSets ws .reply ≡ violated v → Ends guards ws 0 start (startJudging fullSets) ws → ToldBy (guarding guards) ws v
+    told-case v e (all q x) = let y : violated v ≡ reducible = sym e ∙ judged-reply guards ws sound ∙ q in never (cc)
+    told-case v e (some m u q p x told) =
+        let y : violated u ≡ violated v = sym (judged-reply guards ws sound ∙ q) ∙ e in
+        let z : u ≡ v = cc in
+        subst (ToldBy (guarding guards) ws) z told
 
 -- Two ways of giving guards that agree on every variable of a frame.
 module _ (P Q : ℕ → Guard) (same : (x : ℕ) → x < variableCount → P x ≡ Q x) where
@@ -273,11 +332,49 @@ module _ (P Q : ℕ → Guard) (same : (x : ℕ) → x < variableCount → P x �
   same-at (here {w = w} {f = f} d e r) = here d e (same-wrong (decoded-in-range w f d .object) r)
   same-at (later {w = w} {f = f} d e r rest) = later d e (same-steps (decoded-in-range w f d .object) r) (same-at rest)
 
+  -- the rules lead to the same places, so they tell the same marks and locks
+  same-reaches : {s m : State} {φ ψ : Store} {ws : List ℕ} {i : ℕ} → Reaches P s φ ws i m ψ → Reaches Q s φ ws i m ψ
+  same-reaches none = none
+  same-reaches (more {w = w} {f = f} d e r rest) = more d e (same-steps (decoded-in-range w f d .object) r) (same-reaches rest)
+
+  same-mark : (ws : List ℕ) (t : ℕ) (R : Stage → Type 0) (i : ℕ) (m : Mark) → MarkIs P ws t R i m → MarkIs Q ws t R i m
+  same-mark ws t R i (At b) h = record {
+    within = h .within;
+    not-before = let (s, φ, r, q) = h .not-before in (s, φ, same-reaches r, q);
+    from-there = λ k l g. let (s, φ, r, q) = h .from-there k l g in (s, φ, same-reaches r, q);
+  }
+  same-mark ws t R i Absent (s, φ, r, q) = (s, φ, same-reaches r, q)
+
+  same-locks : (φ : Store) (a : Action) → ObjectInRange a → lockSet P φ a ≡ lockSet Q φ a
+  same-locks φ (action.Acquire m) h = refl
+  same-locks φ (action.Release m) h = refl
+  same-locks φ (action.Read x) h = ap (λ (g : Guard). guardLocks g (φ .locks (x .0))) (same (x .0) h)
+  same-locks φ (action.Write x) h = ap (λ (g : Guard). guardLocks g (φ .locks (x .0))) (same (x .0) h)
+  same-locks φ action.Begin h = refl
+  same-locks φ action.End h = refl
+
+  same-told : {ws : List ℕ} {v : Violation} → ToldBy P ws v → ToldBy Q ws v
+  same-told {ws = ws} {v = v} h =
+      let o = decoded-in-range (getD ws (v .frame) 0) (h .frame) (h .word) .object in
+      record {
+        state = h .state;
+        store = h .store;
+        frame = h .frame;
+        reached = same-reaches (h .reached);
+        word = h .word;
+        goes-wrong = same-wrong o (h .goes-wrong);
+        thread = h .thread;
+        begin = same-mark ws (h .frame .thread .0) InBlock (v .frame) (v .begin) (h .begin);
+        commit = same-mark ws (h .frame .thread .0) Committed (v .frame) (v .commit) (h .commit);
+        locks = h .locks ∙ same-locks (h .store) (h .frame .action) o;
+      }
+
 -- so a reply that is of the rules with the one is with the other
 with-same : (P Q : ℕ → Guard) → ((x : ℕ) → x < variableCount → P x ≡ Q x) → (ws : List ℕ) (r : Reply) → OfTheRules P ws r → OfTheRules Q ws r
-with-same P Q same ws r (a, b) = (
+with-same P Q same ws r (a, b, c) = (
   (λ e. same-all P Q same (a .0 e), λ y. a .1 (same-all Q P back y)),
   λ i k. (λ e. same-at P Q same (b i k .0 e), λ y. b i k .1 (same-at Q P back y)),
+  λ v e. same-told P Q same (c v e),
 )
   where
     back : (x : ℕ) → x < variableCount → Q x ≡ P x

@@ -4,7 +4,7 @@
 -- those whose guard is inferred. The empty operation is no frame.
 -- In this order: figure 4 and the claims of sound frames and of counts, the stores, figures 8 and 11, recordings, the claims of the verdicts.
 -- Quotes are from docs/FORMAT.md, but for those of the paper's sections 2.2 and 4.3 and figures.
-use Prim.Native.Nat.{ℕ, suc, _+_, _-_, _≤_, _<_}
+use Prim.Native.Nat.{ℕ, suc, _+_, _-_, _^_, _≤_, _<_}
 use mathlib.Core.Path.{_≡_}
 use mathlib.Core.Bool.{cond}
 use mathlib.Core.Logic.{_↔_, _⊎_}
@@ -33,6 +33,8 @@ use Rattle.soundness.specs.declared.CheckReply.the-variants as check
 use Rattle.reply.specs.Reply.{reducible, violated}
 use Rattle.reply.specs.declared.Kind.{Kind}
 use Rattle.reply.specs.declared.Kind.the-variants.{GuardNotHeld, UnprotectedAfterCommit, AcquireAfterCommit, SetEmptied}
+use Rattle.reply.specs.declared.Mark.{Mark}
+use Rattle.reply.specs.declared.Mark.the-variants.{At, Absent}
 use Rattle.reply.specs.declared.Reply.{Reply}
 use Rattle.reply.specs.declared.Violation.{Violation}
 use Rattle.instrumented.specs.Held.{heldSet}
@@ -161,6 +163,12 @@ module _ (P : ℕ → Guard) where
     later : {s n : State} {φ φ′ : Store} {w : ℕ} {ws : List ℕ} {f : Frame} {i : ℕ} {k : Kind} → decodeWord w ≡ decoded.Frame f → Acts s (f .thread .0) (f .action) n
         → Steps P s φ (f .thread .0) (f .action) φ′ → WrongAt n φ′ ws i k → WrongAt s φ (w ∷ ws) (suc i) k
 
+  -- The first i frames of a recording step, and lead to a state and a store.
+  pub data Reaches : State → Store → List ℕ → ℕ → State → Store → Type 0 where
+    none : {s : State} {φ : Store} {ws : List ℕ} → Reaches s φ ws 0 s φ
+    more : {s n m : State} {φ φ′ ψ : Store} {w : ℕ} {ws : List ℕ} {f : Frame} {i : ℕ} → decodeWord w ≡ decoded.Frame f → Acts s (f .thread .0) (f .action) n
+        → Steps P s φ (f .thread .0) (f .action) φ′ → Reaches n φ′ ws i m ψ → Reaches s φ (w ∷ ws) (suc i) m ψ
+
 -- All threads are outside, and every candidate set is all 64 locks.
 abbrev pub startStore : Store
 startStore = record { stage = λ t. Outside; locks = λ x. getD fullSets x 0 }
@@ -168,12 +176,70 @@ startStore = record { stage = λ t. Outside; locks = λ x. getD fullSets x 0 }
 abbrev pub guarding : List ℕ → ℕ → Guard
 guarding guards x = guardOf (getD guards x 0)
 
+-- A thread's stage is in a block, and after the commit of its block.
+abbrev pub InBlock : Stage → Type 0
+InBlock g = g ≡ Outside → ⊥
+
+abbrev pub Committed : Stage → Type 0
+Committed g = g ≡ PostCommit
+
+-- What the rules say of thread t before the frames of a recording.
+module _ (P : ℕ → Guard) (ws : List ℕ) (t : ℕ) where
+  -- The first i frames step, and after them Q holds of the thread's stage.
+  abbrev pub StageAfter : ℕ → (Stage → Type 0) → Type 0
+  StageAfter i Q = (s : State) × (φ : Store) × Reaches P start startStore ws i s φ × Q (φ .stage t)
+
+  -- Frame b made Q true of the thread's stage, and it has been true up to frame i: not just before b, but just before every later frame.
+  pub record Since (Q : Stage → Type 0) (i b : ℕ) : Type 0 where
+    pub within : b < i
+    pub not-before : StageAfter b (λ g. Q g → ⊥)
+    pub from-there : (k : ℕ) → b < k → k ≤ i → StageAfter k Q
+
+  -- A mark of Q just before frame i: the frame that made it true, absent where it is not true.
+  abbrev pub MarkIs : (Stage → Type 0) → ℕ → Mark → Type 0
+  MarkIs Q i (At b) = Since Q i b
+  MarkIs Q i Absent = StageAfter i (λ g. Q g → ⊥)
+
+-- The locks that a violation names at an access, by the guard and the candidate set of its variable: "the guard alone", "none", "the
+-- variable's set just before the frame".
+abbrev pub guardLocks : Guard → ℕ → ℕ
+guardLocks (Locked m) l = 2 ^ (m .0)
+guardLocks Unprotected l = 0
+guardLocks Inferred l = l
+
+-- The locks that a violation names, by the action that goes wrong: at an acquire "the lock acquired". The others never go wrong.
+abbrev pub lockSet : (ℕ → Guard) → Store → Action → ℕ
+lockSet P φ (action.Acquire m) = 2 ^ (m .0)
+lockSet P φ (action.Release m) = 0
+lockSet P φ (action.Read x) = guardLocks (P (x .0)) (φ .locks (x .0))
+lockSet P φ (action.Write x) = guardLocks (P (x .0)) (φ .locks (x .0))
+lockSet P φ action.Begin = 0
+lockSet P φ action.End = 0
+
+-- All of violation v is what the rules say of its frame: the frames before it step, it goes wrong by a rule of v's kind, it is of v's thread,
+-- and v's marks and locks are those of this thread and of this frame. "Begin is always the outermost begin of the open block, and commit the
+-- frame that took that block after commit; later releases keep it." "Begin is absent outside a block, commit is absent there and before
+-- commit."
+pub record ToldBy (P : ℕ → Guard) (ws : List ℕ) (v : Violation) : Type 0 where
+  pub state : State
+  pub store : Store
+  pub frame : Frame
+  pub reached : Reaches P start startStore ws (v .frame) state store
+  pub word : decodeWord (getD ws (v .frame) 0) ≡ decoded.Frame frame
+  pub goes-wrong : Wrong P state store (frame .thread .0) (frame .action) (v .kind)
+  pub thread : v .thread ≡ frame .thread
+  pub begin : MarkIs P ws (frame .thread .0) InBlock (v .frame) (v .begin)
+  pub commit : MarkIs P ws (frame .thread .0) Committed (v .frame) (v .commit)
+  pub locks : v .locks ≡ lockSet P store (frame .action)
+
 -- The reply r to a recording is that of the rules, where P gives each variable's guard: reducible exactly if all frames step, and a violation
--- of kind k at frame i exactly if the first i frames step and frame i goes wrong by a rule of that kind.
+-- of kind k at frame i exactly if the first i frames step and frame i goes wrong by a rule of that kind; and all else that a violation names
+-- is told by the rules.
 abbrev pub OfTheRules : (ℕ → Guard) → List ℕ → Reply → Type 0
 OfTheRules P ws r =
     (r ≡ reducible ↔ AllStep P start startStore ws)
     × ((i : ℕ) (k : Kind) → ((v : Violation) × (r ≡ violated v) × (v .frame ≡ i) × (v .kind ≡ k)) ↔ WrongAt P start startStore ws i k)
+    × ((v : Violation) → r ≡ violated v → ToldBy P ws v)
 
 -- Term 2's first sentence: the verdict on a sound recording is that of the rules, whatever the codes of the guards.
 abbrev pub VerdictIsOfTheRules : Type 0
