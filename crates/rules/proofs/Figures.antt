@@ -52,7 +52,7 @@ use Rattle.rules.proofs.Marks.{Knows, knows-next, begin-is, commit-is}
 use Rattle.rules.proofs.Told.{Told, goes, wrong, frame-told}
 
 -- What the rules make of an operation.
-data Result : Type 0 where
+pub data Result : Type 0 where
   to : Store → Result
   amiss : Kind → Result
 
@@ -80,7 +80,7 @@ module _ (P : ℕ → Guard) (s : State) (φ : Store) (t : ℕ) where
   accessRule x Inferred = cond (eqb (shared P s φ t x) 0) (amiss SetEmptied) (to (putLocks φ (x .0) (shared P s φ t x)))
 
   -- of any action
-  abbrev rule : Action → Result
+  abbrev pub rule : Action → Result
   rule (action.Acquire m) = cond (eqb (ownerOf m s) (t + 1)) (to φ) (acquireRule (φ .stage t))
   rule (action.Release m) = cond (leb (countOf m s) 1) (releaseRule (φ .stage t)) (to φ)
   rule (action.Read x) = accessRule x (P (x .0))
@@ -105,7 +105,7 @@ module _ (P : ℕ → Guard) (s : State) (φ : Store) (t : ℕ) where
   not-outside PostCommit h = refl
 
   -- an operation that steps, or goes wrong, does so by the function
-  steps-rule : {a : Action} {φ′ : Store} → Steps P s φ t a φ′ → rule a ≡ to φ′
+  pub steps-rule : {a : Action} {φ′ : Store} → Steps P s φ t a φ′ → rule a ≡ to φ′
   steps-rule (ins-access-protected c g o) = access-rule c ∙ rw (g, eq-eqb _ _ o)
   steps-rule (ins-race-commit c g e) = access-rule c ∙ rw (g, e)
   steps-rule (ins-race-outside c g e) = access-rule c ∙ rw (g, e)

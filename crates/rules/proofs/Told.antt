@@ -1,7 +1,7 @@
 -- One frame: what the pass makes of it is what the rules say of it.
 use Prim.Native.Nat.{ℕ, _+_, _-_, _≤_, _<_}
 use mathlib.Core.Path.{_≡_, refl, sym, ap, _∙_}
-use mathlib.Core.Bool.{Bool, true, false, cond}
+use mathlib.Core.Bool.{Bool, true, false}
 use mathlib.Core.Logic.{inr}
 use mathlib.Core.List.{List}
 use native.Mathlib.Omega.{arith}
@@ -35,7 +35,7 @@ use Rattle.operation.specs.Operation.{guardedAccess, operationOf}
 use Rattle.instrumented.specs.Held.{heldSet}
 use Rattle.operation.specs.declared.Operation.the-variants.{Protected, Inferred, Begin, End}
 use Rattle.laws.proofs.Logic.{never}
-use Rattle.rules.specs.Figures.{Outside, PreCommit, PostCommit, Store, putStage, Accesses, reads, writes, Steps, ins-access-protected, ins-race-commit, ins-race-outside, ins-acquire, ins-release-commit, ins-release-outside, ins-reentrant-acquire, ins-reentrant-release, ins-enter, ins-nested-enter, ins-exit, ins-nested-exit, ins2-access, Wrong, wrong-access-protected, wrong-race-violate, wrong-acquire, wrong2-race, guarding, InBlock, Committed, guardLocks, lockSet}
+use Rattle.rules.specs.Figures.{Outside, PreCommit, PostCommit, putStage, Accesses, reads, writes, Steps, ins-access-protected, ins-race-commit, ins-race-outside, ins-acquire, ins-release-commit, ins-release-outside, ins-reentrant-acquire, ins-reentrant-release, ins-enter, ins-nested-enter, ins-exit, ins-nested-exit, ins2-access, Wrong, wrong-access-protected, wrong-race-violate, wrong-acquire, wrong2-race, guarding, InBlock, Committed, guardLocks, lockSet}
 use Rattle.rules.proofs.Store.{held-is, stageAt, storeOf, Sized, stays, narrowed, moved, deepened, committing, stage-in, stage-committed, stage-deep}
 use Rattle.rules.proofs.Marks.{Kept, Marked, kept-same, unmarked, put-set, put-same, marked, commit-begun, commit-done}
 

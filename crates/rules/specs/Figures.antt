@@ -36,6 +36,8 @@ use Rattle.reply.specs.declared.Kind.the-variants.{GuardNotHeld, UnprotectedAft
 use Rattle.reply.specs.declared.Mark.{Mark}
 use Rattle.reply.specs.declared.Mark.the-variants.{At, Absent}
 use Rattle.reply.specs.declared.Reply.{Reply}
+use Rattle.reply.specs.declared.Reply.the-variants as reply
+use Rattle.reply.specs.declared.Verdict.{Verdict}
 use Rattle.reply.specs.declared.Violation.{Violation}
 use Rattle.instrumented.specs.Held.{heldSet}
 use Rattle.pass.specs.Pass.{fullSets, judgement}
@@ -254,3 +256,8 @@ DeclaredIsOfTheRules =
 -- The same of the inferred verdict, with a table of m candidate sets: every guard is inferred.
 abbrev pub InferredIsOfTheRules : Type 0
 InferredIsOfTheRules = (ws : List ℕ) (m : ℕ) → checkReply ws ≡ check.Sound → variableCount ≤ m → OfTheRules (λ x. Inferred) ws (inferredReply ws m)
+
+-- The rules leave one verdict on a recording: all that a violation names is fixed by them.
+abbrev pub RulesFixTheReply : Type 0
+RulesFixTheReply =
+    (P : ℕ → Guard) (ws : List ℕ) (v u : Verdict) → OfTheRules P ws (reply.Judged v) → OfTheRules P ws (reply.Judged u) → v ≡ u
