@@ -138,20 +138,22 @@ module _ (P : ℕ → Guard) (all : List ℕ) where
 
   -- the marks of a thread's phase are right
   module _ {i : ℕ} {s : State} {j : Judging} (x : Knows i s j) (t : Thread) where
-    begin-told : (y : Bool) → eqb (getD (s .depths) (t .0) 0) 0 ≡ y → (z : Bool) → eqb (getD (j .commits) (t .0) 0) 0 ≡ z
+    begin-case : (y : Bool) → eqb (getD (s .depths) (t .0) 0) 0 ≡ y → (z : Bool) → eqb (getD (j .commits) (t .0) 0) 0 ≡ z
         → MarkIs P all (t .0) InBlock i (beginMark (phaseAt (getD (s .depths) (t .0) 0) t j))
-    begin-told true e z f = rw e (s, storeOf (s .depths) j, x .reached, λ h. h (rw e))
-    begin-told false e true f = rw (e, f) (x .begun (t .0) (stage-in (getD (s .depths) (t .0) 0) (getD (j .commits) (t .0) 0) e))
-    begin-told false e false f = rw (e, f) (x .begun (t .0) (stage-in (getD (s .depths) (t .0) 0) (getD (j .commits) (t .0) 0) e))
+    begin-case true e z f =
+        let n : InBlock (storeOf (s .depths) j .stage (t .0)) → ⊥ = λ h. h (rw e) in
+        rw e (s, storeOf (s .depths) j, x .reached, n)
+    begin-case false e true f = rw (e, f) (x .begun (t .0) (stage-in (getD (s .depths) (t .0) 0) (getD (j .commits) (t .0) 0) e))
+    begin-case false e false f = rw (e, f) (x .begun (t .0) (stage-in (getD (s .depths) (t .0) 0) (getD (j .commits) (t .0) 0) e))
 
-    commit-told : (y : Bool) → eqb (getD (s .depths) (t .0) 0) 0 ≡ y → (z : Bool) → eqb (getD (j .commits) (t .0) 0) 0 ≡ z
+    commit-case : (y : Bool) → eqb (getD (s .depths) (t .0) 0) 0 ≡ y → (z : Bool) → eqb (getD (j .commits) (t .0) 0) 0 ≡ z
         → MarkIs P all (t .0) Committed i (commitMark (phaseAt (getD (s .depths) (t .0) 0) t j))
-    commit-told true e z f = rw e (s, storeOf (s .depths) j, x .reached, λ h. let q : Outside ≡ PostCommit = rw e at h in never (cc))
-    commit-told false e true f = rw (e, f) (s, storeOf (s .depths) j, x .reached, λ h. let q : PreCommit ≡ PostCommit = rw (e, f) at h in never (cc))
-    commit-told false e false f = rw (e, f) (x .done (t .0) (rw (e, f)))
+    commit-case true e z f = rw e (s, storeOf (s .depths) j, x .reached, λ h. let q : Outside ≡ PostCommit = rw e at h in never (cc))
+    commit-case false e true f = rw (e, f) (s, storeOf (s .depths) j, x .reached, λ h. let q : PreCommit ≡ PostCommit = rw (e, f) at h in never (cc))
+    commit-case false e false f = rw (e, f) (x .done (t .0) (rw (e, f)))
 
     pub begin-is : MarkIs P all (t .0) InBlock i (beginMark (phaseAt (getD (s .depths) (t .0) 0) t j))
-    begin-is = begin-told _ refl _ refl
+    begin-is = begin-case _ refl _ refl
 
     pub commit-is : MarkIs P all (t .0) Committed i (commitMark (phaseAt (getD (s .depths) (t .0) 0) t j))
-    commit-is = commit-told _ refl _ refl
+    commit-is = commit-case _ refl _ refl

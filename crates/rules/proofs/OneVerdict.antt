@@ -1,6 +1,6 @@
 -- The rules leave one verdict on a recording. In this order: the frames before a place lead to one state and one store, a stage holds since one
 -- frame, one violation, the claim.
-use Prim.Native.Nat.{ℕ, _≤_, _<_}
+use Prim.Native.Nat.{ℕ, _<_}
 use mathlib.Core.Path.{_≡_, refl, sym, ap, subst, _∙_}
 use mathlib.Core.Bool.{Bool, true, false}
 use mathlib.Core.List.{List}
@@ -13,17 +13,14 @@ use Rattle.frame.specs.declared.Frame.{Frame}
 use Rattle.frame.specs.declared.Decoded.the-variants as decoded
 use Rattle.guards.specs.declared.Guard.{Guard}
 use Rattle.soundness.specs.Soundness.{State, start}
-use Rattle.reply.specs.Reply.{reducible, violated}
 use Rattle.reply.specs.declared.Mark.{Mark}
 use Rattle.reply.specs.declared.Mark.the-variants.{At, Absent}
-use Rattle.reply.specs.declared.Reply.the-variants as reply
-use Rattle.reply.specs.declared.Verdict.{Verdict}
 use Rattle.reply.specs.declared.Verdict.the-variants as verdict
 use Rattle.reply.specs.declared.Violation.{Violation}
 use Rattle.laws.proofs.Logic.{never}
-use Rattle.rules.specs.Figures.{Stage, Store, Acts, Steps, Reaches, none, more, startStore, InBlock, Committed, StageAfter, Since, MarkIs, lockSet, ToldBy, OfTheRules, RulesFixTheReply}
+use Rattle.rules.specs.Figures.{Stage, Store, Acts, Steps, Reaches, none, more, startStore, InBlock, Committed, StageAfter, Since, MarkIs, lockSet, ToldBy, RulesFixTheReply}
 use Rattle.rules.proofs.Acts.{acted, acts-to}
-use Rattle.rules.proofs.Figures.{Result, to, rule, steps-rule}
+use Rattle.rules.proofs.Figures.{to, rule, steps-rule}
 
 module _ (P : ℕ → Guard) where
   -- a frame leads to one state and one store
