@@ -2,7 +2,8 @@
 -- re-entrant locks, and what they say of frames and of whole recordings. The rules of figure 11 that are those of figure 8 over again
 -- ([INS2 ACQUIRE], [INS2 RELEASE COMMIT], ..) are stated once; figure 8's accesses are of variables whose guard is declared, figure 11's of
 -- those whose guard is inferred. The empty operation is no frame.
--- In this order: figure 4 and the claims of sound frames and of counts, the stores, figures 8 and 11, recordings, the claims of the verdicts.
+-- In this order: figure 4 and the claims of sound frames and of counts, the stores, figures 8 and 11, recordings, what a violation names, the
+-- claims of the verdicts.
 -- Quotes are from docs/FORMAT.md, but for those of the paper's sections 2.2 and 4.3 and figures.
 use Prim.Native.Nat.{ℕ, suc, _+_, _-_, _^_, _≤_, _<_}
 use mathlib.Core.Path.{_≡_}
@@ -191,7 +192,7 @@ module _ (P : ℕ → Guard) (ws : List ℕ) (t : ℕ) where
   abbrev pub StageAfter : ℕ → (Stage → Type 0) → Type 0
   StageAfter i Q = (s : State) × (φ : Store) × Reaches P start startStore ws i s φ × Q (φ .stage t)
 
-  -- Frame b made Q true of the thread's stage, and it has been true up to frame i: not just before b, but just before every later frame.
+  -- Frame b made Q true of the thread's stage, and Q stayed true up to frame i: not just before b, but just before each frame after b up to i.
   pub record Since (Q : Stage → Type 0) (i b : ℕ) : Type 0 where
     pub within : b < i
     pub not-before : StageAfter b (λ g. Q g → ⊥)
