@@ -1,5 +1,5 @@
--- The marks that a violation has. In this order: what a frame leaves of the begins and commits of the pass, one frame more by the rules, since
--- when a stage holds, what the pass knows of the frames before a place.
+-- The marks that a violation has. In this order: what a frame leaves of the begins and commits of the pass, one frame more by the rules,
+-- since when a stage holds, what the pass knows of the frames before a place.
 use Prim.Native.Nat.{ℕ, suc, _+_, _-_, _≤_, _<_}
 use mathlib.Core.Path.{_≡_, refl, sym, subst}
 use mathlib.Core.Bool.{Bool, true, false, cond}
@@ -22,7 +22,8 @@ use Rattle.laws.proofs.Lists.{getD-set}
 use Rattle.rules.specs.Figures.{Acts, Stage, Outside, PreCommit, PostCommit, Store, Steps, Reaches, none, more, startStore, InBlock, Committed, StageAfter, Since, MarkIs}
 use Rattle.rules.proofs.Store.{stageAt, storeOf, stage-in}
 
--- What a frame at place i does to a thread's mark of Q, as it leads from stage g to stage h: the mark stays where Q held, and is i where it did not.
+-- What a frame at place i does to a thread's mark of Q, as it leads from stage g to stage h: the mark stays where Q held, and is i where it
+-- did not.
 abbrev pub Kept : (Stage → Type 0) → ℕ → Stage → ℕ → Stage → ℕ → Type 0
 Kept Q i g b h c = Q h → ((Q g × (c ≡ b)) ⊎ ((Q g → ⊥) × (c ≡ i)))
 

@@ -1,5 +1,5 @@
--- The rules leave one verdict on a recording. In this order: the frames before a place lead to one state and one store, a stage holds since one
--- frame, one violation, the claim.
+-- The rules leave one verdict on a recording. In this order: the frames before a place lead to one state and one store, a stage holds since
+-- one frame, one violation, the claim.
 use Prim.Native.Nat.{ℕ, _<_}
 use mathlib.Core.Path.{_≡_, refl, sym, ap, subst, _∙_}
 use mathlib.Core.Bool.{Bool, true, false}

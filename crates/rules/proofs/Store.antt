@@ -1,4 +1,4 @@
--- The paper's store in the state of the pass. In this order: the locks held, the store of a state, how it changes, stages by depth and commit.
+-- The paper's store in the state of the pass. In this order: the locks held, the store of a state, how it changes, the stages.
 use Prim.Native.Nat.{ℕ, zero, suc, _+_, _*_, _/_, _%_, _<_}
 use mathlib.Core.Path.{_≡_, refl, sym, ap, _∙_, fun-ext}
 use mathlib.Core.Bool.{Bool, true, false, cond}

@@ -192,7 +192,7 @@ module _ (P : ℕ → Guard) (ws : List ℕ) (t : ℕ) where
   abbrev pub StageAfter : ℕ → (Stage → Type 0) → Type 0
   StageAfter i Q = (s : State) × (φ : Store) × Reaches P start startStore ws i s φ × Q (φ .stage t)
 
-  -- Frame b made Q true of the thread's stage, and Q stayed true up to frame i: not just before b, but just before each frame after b up to i.
+  -- Frame b made Q true of the thread's stage, and it stayed true up to frame i: not just before b, but just before each later one up to i.
   pub record Since (Q : Stage → Type 0) (i b : ℕ) : Type 0 where
     pub within : b < i
     pub not-before : StageAfter b (λ g. Q g → ⊥)
