@@ -104,16 +104,16 @@ earliest (suc n) k m depths begins b e =
     earliest-next n k m depths begins b (earliest n (k + 1) (earlier m (openBegin (getD depths k 0) (getD begins k 0))) depths begins b e)
 
 -- The first i frames lead to state s.
-abbrev Reached : List ℕ → ℕ → State → Type 0
+abbrev pub Reached : List ℕ → ℕ → State → Type 0
 Reached all i s = (r : List ℕ) → checkFrom 0 start (take i all ++ r) ≡ checkFrom i s r
 
-reached-depth : (all : List ℕ) (i : ℕ) (s : State) → Reached all i s → (t : ℕ) → depthAfter all t i ≡ getD (s .depths) t 0
+pub reached-depth : (all : List ℕ) (i : ℕ) (s : State) → Reached all i s → (t : ℕ) → depthAfter all t i ≡ getD (s .depths) t 0
 unfolding checkFrom
 reached-depth all i s h t =
     ap (λ (l : List ℕ). getD (checkFrom 0 start l .state .depths) t 0) (sym (append-nil (take i all)))
     ∙ ap (λ (x : Checked). getD (x .state .depths) t 0) (h [])
 
-reached-next : {x : Level} (all : List ℕ) (i w : ℕ) (ws : List ℕ) (s n : State) (f : Frame) → drop i all ≡ w ∷ ws → decodeWord w ≡ decoded.Frame f
+pub reached-next : {x : Level} (all : List ℕ) (i w : ℕ) (ws : List ℕ) (s n : State) (f : Frame) → drop i all ≡ w ∷ ws → decodeWord w ≡ decoded.Frame f
     → stepFrame f s ≡ stepped (outcome.Next x) n → Reached all i s → Reached all (suc i) n
 reached-next all i w ws s n f e d g h r =
     let q = rest-of all i w ws e in

@@ -118,15 +118,15 @@ step-commits guards t action.Begin s n j x e = refl
 step-commits guards t action.End s n j x e = refl
 
 -- What the walk keeps is what the pass has, and its own lists have an entry for each thread.
-record Kept (s : State) (j : Judging) (x : Tables) : Type 0 where
-  locks : Counts s
-  counts-are : x .counts ≡ s .counts
-  depths-are : x .depths ≡ s .depths
-  starts-long : length (x .starts) ≡ threadCount
-  committed-long : length (x .committed) ≡ threadCount
-  committed-is : (u : ℕ) → eqb (getD (x .committed) u 0) 0 ≡ eqb (viewOf s j .committed u) 0
+pub record Kept (s : State) (j : Judging) (x : Tables) : Type 0 where
+  pub locks : Counts s
+  pub counts-are : x .counts ≡ s .counts
+  pub depths-are : x .depths ≡ s .depths
+  pub starts-long : length (x .starts) ≡ threadCount
+  pub committed-long : length (x .committed) ≡ threadCount
+  pub committed-is : (u : ℕ) → eqb (getD (x .committed) u 0) 0 ≡ eqb (viewOf s j .committed u) 0
 
-kept-start : (j : Judging) → Kept start j startTables
+pub kept-start : (j : Judging) → Kept start j startTables
 unfolding start startTables
 kept-start j = record {
   locks = start-counts;
@@ -137,7 +137,7 @@ kept-start j = record {
   committed-is = λ u. rw (getD-filled threadCount u 0);
 }
 
-commits-are : (guards : List ℕ) (f : Frame) {s n : State} {j : Judging} {x : Tables} {l : Level} → stepFrame f s ≡ stepped (outcome.Next l) n → Kept s j x
+pub commits-are : (guards : List ℕ) (f : Frame) {s n : State} {j : Judging} {x : Tables} {l : Level} → stepFrame f s ≡ stepped (outcome.Next l) n → Kept s j x
     → committing guards (x .counts) (f .action) ≡ run.committing (seen guards (viewOf s j) f)
 commits-are guards f {s} {n} {j} {x} {l} g h = rw (h .counts-are) (step-commits guards (threadOf f) (f .action) s n j l g)
 
@@ -161,7 +161,7 @@ module _ (guards : List ℕ) {i : ℕ} {s n : State} {j k : Judging} {x : Tables
       (getD (x .committed) (threadOf f) 0) (viewOf s j .committed (threadOf f)) (h .committed-is (threadOf f))))
       (λ q. rw q (h .committed-is u)))
 
-  kept-next : Kept n k (visited guards i f x)
+  pub kept-next : Kept n k (visited guards i f x)
   unfolding visited
   kept-next = record {
     locks = counted-next (threadOf f) (f .action) s n l (r .object) (h .locks) g;

@@ -1,0 +1,3 @@
+-- Entries: what the walk leaves in one entry of the table. CommitLaws: the claims.
+mod Entries
+mod CommitLaws
