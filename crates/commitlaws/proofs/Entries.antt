@@ -60,6 +60,27 @@ mark-commits b i true false m c true em ec = rw (em, ec, ne-eqb (suc i) 0 (λ k.
 mark-commits b i false true m c true em ec = rw (em, ec)
 mark-commits b i false false m c true em ec = rw (em, ec)
 
+-- an entry after a unit is noted: of another start, of its own
+noted-other : (c z : Bool) (b i p : ℕ) (t : List ℕ) → (c ≡ true → b ≡ p → ⊥) → getD (noted (cond (c && z) (At b) Absent) i t) p 0 ≡ getD t p 0
+noted-other true true b i p t a = getD-set-other t b p (i + 1) 0 (λ e. a refl (sym e))
+noted-other true false b i p t a = refl
+noted-other false z b i p t a = refl
+
+noted-none : (c z : Bool) (b i p : ℕ) (t : List ℕ) → z ≡ false → getD (noted (cond (c && z) (At b) Absent) i t) p 0 ≡ getD t p 0
+noted-none true z b i p t e = rw e
+noted-none false z b i p t e = refl
+
+noted-own : (c z : Bool) (b i p : ℕ) (t : List ℕ) → p < length t → c ≡ true → z ≡ true → b ≡ p → getD (noted (cond (c && z) (At b) Absent) i t) p 0 ≡ i + 1
+noted-own c z b i p t l ec ez eb = rw (ec, ez, eb) (getD-set-same t p (i + 1) 0 l)
+
+-- What an entry is to be: one more than the unit's commit c where that is in the recording of length m, and else what it was.
+abbrev pub entry : ℕ → ℕ → ℕ → ℕ
+entry m c old = cond (ltb c m) (c + 1) old
+
+pub noted-long : (m : Mark) (i : ℕ) (t : List ℕ) → length (noted m i t) ≡ length t
+noted-long (At b) i t = length-set t b (i + 1)
+noted-long Absent i t = refl
+
 module _ (guards : List ℕ) {i : ℕ} {s n : State} {j k : Judging} {x : Tables} {f : Frame} {l : Level} (r : InRange f)
     (g : stepFrame f s ≡ stepped (outcome.Next l) n) (o : OneFrame guards i f s j n k) (h : Kept s j x) where
   -- where the unit of the frame starts
@@ -99,12 +120,72 @@ module _ (guards : List ℕ) {i : ℕ} {s n : State} {j k : Judging} {x : Tables
       (λ q. subst (λ (y : ℕ). Q v y) (sym (starts-next v ∙ rw q)) (m v (sym (other-settled v q) ∙ (sym (settled-next v) ∙ e))))
 
   -- the unit that the frame commits
-  settles : Bool
-  settles = eqb (viewOf s j .committed (threadOf f)) 0 && run.settled (onto guards (viewOf s j) i f) (threadOf f)
-
   unit-start : unitStart guards i f x ≡ cond (eqb (viewOf s j .committed (threadOf f)) 0 && run.settled (onto guards (viewOf s j) i f) (threadOf f)) (At from) Absent
   unfolding unitStart
   unit-start =
       rw (commits-are guards f g h, h .depths-are, eq-eqb (threadOf f) (threadOf f) refl)
       (mark-commits from i (run.committing (seen guards (viewOf s j) f)) (eqb (nest (getD (s .depths) (threadOf f) 0) (f .action)) 0)
       (getD (x .committed) (threadOf f) 0) (viewOf s j .committed (threadOf f)) (eqb (viewOf s j .committed (threadOf f)) 0) (h .committed-is (threadOf f)) refl)
+
+  stays : (p : ℕ) (t : List ℕ) → (eqb (viewOf s j .committed (threadOf f)) 0 ≡ true → from ≡ p → ⊥)
+      → getD (noted (unitStart guards i f x) i t) p 0 ≡ getD t p 0
+  stays p t a = rw unit-start (noted-other (eqb (viewOf s j .committed (threadOf f)) 0) (run.settled (onto guards (viewOf s j) i f) (threadOf f)) from i p t a)
+
+  open-stays : (p : ℕ) (t : List ℕ) → run.settled (onto guards (viewOf s j) i f) (threadOf f) ≡ false
+      → getD (noted (unitStart guards i f x) i t) p 0 ≡ getD t p 0
+  open-stays p t e =
+      rw unit-start (noted-none (eqb (viewOf s j .committed (threadOf f)) 0) (run.settled (onto guards (viewOf s j) i f) (threadOf f)) from i p t e)
+
+  commits-here : (p : ℕ) (t : List ℕ) → p < length t → eqb (viewOf s j .committed (threadOf f)) 0 ≡ true
+      → run.settled (onto guards (viewOf s j) i f) (threadOf f) ≡ true → from ≡ p → getD (noted (unitStart guards i f x) i t) p 0 ≡ i + 1
+  commits-here p t l c e q =
+      rw unit-start (noted-own (eqb (viewOf s j .committed (threadOf f)) 0) (run.settled (onto guards (viewOf s j) i f) (threadOf f)) from i p t l c e q)
+
+-- The table keeps its length.
+pub walk-long : (guards : List ℕ) (i : ℕ) (x : Tables) (ws t : List ℕ) → length (commitsFrom guards i x ws t) ≡ length t
+unfolding commitsFrom
+walk-long guards i x [] t = refl
+walk-long guards i x (w ∷ ws) t = go (decodeWord w) refl (λ f. walk-long guards (i + 1) (visited guards i f x) ws (noted (unitStart guards i f x) i t))
+  where
+    go : (q : Decoded) → decodeWord w ≡ q
+        → ((f : Frame) → length (commitsFrom guards (i + 1) (visited guards i f x) ws (noted (unitStart guards i f x) i t)) ≡ length (noted (unitStart guards i f x) i t))
+        → length (commitsFrom guards i x (w ∷ ws) t) ≡ length t
+    go (decoded.Frame f) e ih = rw e (ih f ∙ noted-long (unitStart guards i f x) i t)
+    go (decoded.Bad y) e ih = rw e
+
+module _ (guards : List ℕ) (p : ℕ) where
+  -- An entry that no unit has that is still to commit.
+  quiet : {i : ℕ} {s : State} {j : Judging} {x : Tables} {ws : List ℕ} (t : List ℕ) → Pass guards i s j ws → Kept s j x → p < i
+      → Marks (λ v b. b ≡ p → ⊥) s j x → getD (commitsFrom guards i x ws t) p 0 ≡ getD t p 0
+  unfolding commitsFrom
+  quiet t end h l m = refl
+  quiet {x = x} t (on {i = i} {s = s} {j = j} {w = w} {ws = ws} {f = f} {n = n} {k = k} d g a o rest) h l m =
+      let r = decoded-in-range w f d in
+      rw (d, add-one i)
+      (quiet (noted (unitStart guards i f x) i t) rest (kept-next guards r g o h) (omega arith)
+      (marks-next guards r g o h (λ v b. b ≡ p → ⊥) m (λ z e. omega arith))
+      ∙ stays guards r g o h p t (marks-here guards r g o h (λ v b. b ≡ p → ⊥) m (λ z e. omega arith)))
+
+  -- The frame's own unit, which starts at p: it commits with the frame, or is still to commit.
+  module _ (whole : ℕ) {i : ℕ} {s n : State} {j k : Judging} {x : Tables} {f : Frame} {l : Level} {ws : List ℕ} (t : List ℕ) (r : InRange f)
+      (g : stepFrame f s ≡ stepped (outcome.Next l) n) (o : OneFrame guards i f s j n k) (h : Kept s j x) where
+    owned : Pass guards (suc i) n k ws → p < length t → p ≤ i → i < whole → from guards r g o h ≡ p → eqb (viewOf s j .committed (threadOf f)) 0 ≡ true
+        → Marks (λ v b. b ≡ p → v ≡ threadOf f) n k (visited guards i f x)
+        → (run.settled (onto guards (viewOf s j) i f) (threadOf f) ≡ false
+        → getD (commitsFrom guards (suc i) (visited guards i f x) ws (noted (unitStart guards i f x) i t)) p 0
+        ≡ entry whole (commitPlace guards (threadOf f) (onto guards (viewOf s j) i f) (suc i) (framesOf ws)) (getD (noted (unitStart guards i f x) i t) p 0))
+        → getD (commitsFrom guards (suc i) (visited guards i f x) ws (noted (unitStart guards i f x) i t)) p 0
+        ≡ entry whole (cond (run.settled (onto guards (viewOf s j) i f) (threadOf f)) i (commitPlace guards (threadOf f) (onto guards (viewOf s j) i f) (suc i) (framesOf ws))) (getD t p 0)
+    owned rest lt le lw e c m ih = by-test (run.settled (onto guards (viewOf s j) i f) (threadOf f))
+        (λ z. quiet (noted (unitStart guards i f x) i t) rest (kept-next guards r g o h) (omega arith) (gone z)
+        ∙ (commits-here guards r g o h p t lt c z e ∙ sym (ap (λ (b : Bool). entry whole (cond b i C) (getD t p 0)) z ∙ rw (lt-ltb i whole lw))))
+        (λ z. ih z ∙ (ap (λ (y : ℕ). entry whole C y) (open-stays guards r g o h p t z) ∙ sym (ap (λ (b : Bool). entry whole (cond b i C) (getD t p 0)) z)))
+      where
+        C : ℕ
+        C = commitPlace guards (threadOf f) (onto guards (viewOf s j) i f) (suc i) (framesOf ws)
+
+        -- after its commit no unit has the entry
+        gone : run.settled (onto guards (viewOf s j) i f) (threadOf f) ≡ true → Marks (λ v b. b ≡ p → ⊥) n k (visited guards i f x)
+        gone z v q b =
+            let y : false ≡ true = sym q ∙ (settled-next guards r g o h v ∙ (ap (λ (a : ℕ). run.settled (onto guards (viewOf s j) i f) a) (m v q b) ∙ z)) in
+            never (cc)
