@@ -33,7 +33,7 @@ use Rattle.orderlaws.proofs.Walk.{Kept, kept-next, commits-are}
 use Rattle.commitplaces.specs.CommitPlaces.{noted, commitsFrom}
 
 -- a thread that is neither outside nor after commit
-pub unsettled : (a b : Bool) → (a || not b) ≡ false → (a ≡ false) × (b ≡ true)
+unsettled : (a b : Bool) → (a || not b) ≡ false → (a ≡ false) × (b ≡ true)
 unsettled true b e = never (cc)
 unsettled false true e = (refl, refl)
 unsettled false false e = never (cc)
@@ -84,11 +84,11 @@ noted-long Absent i t = refl
 module _ (guards : List ℕ) {i : ℕ} {s n : State} {j k : Judging} {x : Tables} {f : Frame} {l : Level} (r : InRange f)
     (g : stepFrame f s ≡ stepped (outcome.Next l) n) (o : OneFrame guards i f s j n k) (h : Kept s j x) where
   -- where the unit of the frame starts
-  abbrev from : ℕ
+  abbrev pub from : ℕ
   from = startIn (getD (s .depths) (threadOf f) 0) i (getD (x .starts) (threadOf f) 0)
 
   -- A unit that starts before the frame and has not committed has its mark, and one that starts with the frame is told.
-  marks-here : (Q : ℕ → ℕ → Type 0) → Marks Q s j x → (getD (s .depths) (threadOf f) 0 ≡ 0 → Q (threadOf f) i) → eqb (viewOf s j .committed (threadOf f)) 0 ≡ true
+  pub marks-here : (Q : ℕ → ℕ → Type 0) → Marks Q s j x → (getD (s .depths) (threadOf f) 0 ≡ 0 → Q (threadOf f) i) → eqb (viewOf s j .committed (threadOf f)) 0 ≡ true
       → Q (threadOf f) from
   marks-here Q m a c = by-test (eqb (getD (s .depths) (threadOf f) 0) 0)
       (λ z. rw z (a (eqb-true _ _ z)))
@@ -105,14 +105,14 @@ module _ (guards : List ℕ) {i : ℕ} {s n : State} {j k : Judging} {x : Tables
       (rw (eq-eqb (threadOf f) (threadOf f) refl) at e) in
       none-before (eqb (nest (getD (s .depths) (threadOf f) 0) (f .action)) 0) (run.committing (seen guards (viewOf s j) f)) i (viewOf s j .committed (threadOf f)) (q .0) (q .1)
 
-  settled-next : (v : ℕ) → run.settled (viewOf n k) v ≡ run.settled (onto guards (viewOf s j) i f) v
+  pub settled-next : (v : ℕ) → run.settled (viewOf n k) v ≡ run.settled (onto guards (viewOf s j) i f) v
   settled-next v = ap (λ (y : Run). run.settled y v) (o .run)
 
-  starts-next : (v : ℕ) → getD (visited guards i f x .starts) v 0 ≡ cond (eqb v (threadOf f)) from (getD (x .starts) v 0)
+  pub starts-next : (v : ℕ) → getD (visited guards i f x .starts) v 0 ≡ cond (eqb v (threadOf f)) from (getD (x .starts) v 0)
   unfolding visited
   starts-next v = getD-set (x .starts) (threadOf f) _ v (omega (arith, h .starts-long, r .thread)) ∙ rw (h .depths-are)
 
-  marks-next : (Q : ℕ → ℕ → Type 0) → Marks Q s j x → (getD (s .depths) (threadOf f) 0 ≡ 0 → Q (threadOf f) i) → Marks Q n k (visited guards i f x)
+  pub marks-next : (Q : ℕ → ℕ → Type 0) → Marks Q s j x → (getD (s .depths) (threadOf f) 0 ≡ 0 → Q (threadOf f) i) → Marks Q n k (visited guards i f x)
   marks-next Q m a v e = by-test (eqb v (threadOf f))
       (λ q. subst (λ (y : ℕ). Q v y) (sym (starts-next v ∙ rw q))
       (subst (λ (y : ℕ). Q y from) (sym (eqb-true v (threadOf f) q))
@@ -127,7 +127,7 @@ module _ (guards : List ℕ) {i : ℕ} {s n : State} {j k : Judging} {x : Tables
       (mark-commits from i (run.committing (seen guards (viewOf s j) f)) (eqb (nest (getD (s .depths) (threadOf f) 0) (f .action)) 0)
       (getD (x .committed) (threadOf f) 0) (viewOf s j .committed (threadOf f)) (eqb (viewOf s j .committed (threadOf f)) 0) (h .committed-is (threadOf f)) refl)
 
-  stays : (p : ℕ) (t : List ℕ) → (eqb (viewOf s j .committed (threadOf f)) 0 ≡ true → from ≡ p → ⊥)
+  pub stays : (p : ℕ) (t : List ℕ) → (eqb (viewOf s j .committed (threadOf f)) 0 ≡ true → from ≡ p → ⊥)
       → getD (noted (unitStart guards i f x) i t) p 0 ≡ getD t p 0
   stays p t a = rw unit-start (noted-other (eqb (viewOf s j .committed (threadOf f)) 0) (run.settled (onto guards (viewOf s j) i f) (threadOf f)) from i p t a)
 
@@ -155,7 +155,7 @@ walk-long guards i x (w ∷ ws) t = go (decodeWord w) refl (λ f. walk-long guar
 
 module _ (guards : List ℕ) (p : ℕ) where
   -- An entry that no unit has that is still to commit.
-  quiet : {i : ℕ} {s : State} {j : Judging} {x : Tables} {ws : List ℕ} (t : List ℕ) → Pass guards i s j ws → Kept s j x → p < i
+  pub quiet : {i : ℕ} {s : State} {j : Judging} {x : Tables} {ws : List ℕ} (t : List ℕ) → Pass guards i s j ws → Kept s j x → p < i
       → Marks (λ v b. b ≡ p → ⊥) s j x → getD (commitsFrom guards i x ws t) p 0 ≡ getD t p 0
   unfolding commitsFrom
   quiet t end h l m = refl
@@ -169,7 +169,7 @@ module _ (guards : List ℕ) (p : ℕ) where
   -- The frame's own unit, which starts at p: it commits with the frame, or is still to commit.
   module _ (whole : ℕ) {i : ℕ} {s n : State} {j k : Judging} {x : Tables} {f : Frame} {l : Level} {ws : List ℕ} (t : List ℕ) (r : InRange f)
       (g : stepFrame f s ≡ stepped (outcome.Next l) n) (o : OneFrame guards i f s j n k) (h : Kept s j x) where
-    owned : Pass guards (suc i) n k ws → p < length t → p ≤ i → i < whole → from guards r g o h ≡ p → eqb (viewOf s j .committed (threadOf f)) 0 ≡ true
+    pub owned : Pass guards (suc i) n k ws → p < length t → p ≤ i → i < whole → from guards r g o h ≡ p → eqb (viewOf s j .committed (threadOf f)) 0 ≡ true
         → Marks (λ v b. b ≡ p → v ≡ threadOf f) n k (visited guards i f x)
         → (run.settled (onto guards (viewOf s j) i f) (threadOf f) ≡ false
         → getD (commitsFrom guards (suc i) (visited guards i f x) ws (noted (unitStart guards i f x) i t)) p 0
@@ -189,3 +189,53 @@ module _ (guards : List ℕ) (p : ℕ) where
         gone z v q b =
             let y : false ≡ true = sym q ∙ (settled-next guards r g o h v ∙ (ap (λ (a : ℕ). run.settled (onto guards (viewOf s j) i f) a) (m v q b) ∙ z)) in
             never (cc)
+
+  -- The entry of a unit of thread u that is still to commit.
+  pub pending : (whole u : ℕ) {i : ℕ} {s : State} {j : Judging} {x : Tables} {ws : List ℕ} (t : List ℕ) → Pass guards i s j ws → Kept s j x → p < length t → p < i
+      → whole ≡ i + length ws → Marks (λ v b. b ≡ p → v ≡ u) s j x → run.settled (viewOf s j) u ≡ false → getD (x .starts) u 0 ≡ p
+      → getD (commitsFrom guards i x ws t) p 0 ≡ entry whole (commitPlace guards u (viewOf s j) i (framesOf ws)) (getD t p 0)
+  unfolding commitsFrom
+  pending whole u t (end {i = i}) h lt le w m e b = rw (le-ltb i whole (omega arith))
+  pending whole u {x = x} t (on {i = i} {s = s} {j = j} {w = w} {ws = ws} {f = f} {n = n} {k = k} d g a o rest) h lt le ew m e b =
+      let later : run.settled (onto guards (viewOf s j) i f) u ≡ false → getD (visited guards i f x .starts) u 0 ≡ p → After (getD t′ p 0) =
+      λ z y. pending whole u t′ rest (kept-next guards r g o h) (rw (noted-long (unitStart guards i f x) i t) lt) (omega arith) (omega arith) m′
+      (settled-next guards r g o h u ∙ z) y
+      ∙ ap (λ (c : Run). entry whole (commitPlace guards u c (suc i) (framesOf ws)) (getD t′ p 0)) (o .run) in
+      rw (d, add-one i) (go (eqb (threadOf f) u) refl later)
+    where
+      r : InRange f
+      r = decoded-in-range w f d
+
+      t′ : List ℕ
+      t′ = noted (unitStart guards i f x) i t
+
+      m′ : Marks (λ v b. b ≡ p → v ≡ u) n k (visited guards i f x)
+      m′ = marks-next guards r g o h (λ v b. b ≡ p → v ≡ u) m (λ z y. absurd (omega arith))
+
+      left : ℕ
+      left = getD (commitsFrom guards (suc i) (visited guards i f x) ws t′) p 0
+
+      placed : ℕ → ℕ
+      placed v = commitPlace guards v (onto guards (viewOf s j) i f) (suc i) (framesOf ws)
+
+      -- the rest, where the unit is still to commit
+      After : ℕ → Type 0
+      After old = left ≡ entry whole (placed u) old
+
+      go : (b : Bool) → eqb (threadOf f) u ≡ b
+          → (run.settled (onto guards (viewOf s j) i f) u ≡ false → getD (visited guards i f x .starts) u 0 ≡ p → After (getD t′ p 0))
+          → left ≡ entry whole (cond (b && run.settled (onto guards (viewOf s j) i f) u) i (placed u)) (getD t p 0)
+      go true q later =
+          let same : threadOf f ≡ u = eqb-true (threadOf f) u q in
+          let z = unsettled (eqb (getD (s .depths) u 0) 0) (eqb (viewOf s j .committed u) 0) e in
+          let here : from guards r g o h ≡ p = rw same (rw (z .0) b) in
+          subst (λ (v : ℕ). left ≡ entry whole (cond (run.settled (onto guards (viewOf s j) i f) v) i (placed v)) (getD t p 0)) same
+          (owned whole t r g o h rest lt (omega arith) (omega arith) here (rw same (z .1)) (λ v y c. m′ v y c ∙ sym same)
+          (λ y. subst (λ (v : ℕ). left ≡ entry whole (placed v) (getD t′ p 0)) (sym same)
+          (later (ap (λ (v : ℕ). run.settled (onto guards (viewOf s j) i f) v) (sym same) ∙ y)
+          (starts-next guards r g o h u ∙ rw (eq-eqb u (threadOf f) (sym same)) here))))
+      go false q later =
+          let ne : eqb u (threadOf f) ≡ false = ne-eqb u (threadOf f) (λ z. eqb-false _ _ q (sym z)) in
+          later (other-settled guards r g o h u ne ∙ e) (starts-next guards r g o h u ∙ rw ne b)
+          ∙ ap (λ (y : ℕ). entry whole (placed u) y)
+          (stays guards r g o h p t (λ c y. eqb-false _ _ q (marks-here guards r g o h (λ v b. b ≡ p → v ≡ u) m (λ z c. absurd (omega arith)) c y)))
