@@ -1,8 +1,8 @@
 -- The table of commits has the commits of the serial order. In this order: the entry of the place that the walk is at; every entry; the claims.
 use Prim.Native.Nat.{ℕ, suc, _+_, _-_, _≤_, _<_}
 use mathlib.Core.Path.{_≡_, refl, sym, ap, _∙_, subst}
-use mathlib.Core.Bool.{Bool, true, false, cond}
-use mathlib.Core.List.{List, [], _∷_}
+use mathlib.Core.Bool.{Bool, true, false}
+use mathlib.Core.List.{List, _∷_}
 use native.Mathlib.Omega.{arith}
 use native.Mathlib.Numerals.{add-one}
 use borrow.Author.Tests.{eqb-true, eqb-false, eq-eqb, ltb-true, ltb-false, lt-ltb, le-ltb, le-leb}
@@ -15,6 +15,9 @@ use Rattle.frame.specs.Frame.{decodeWord, InRange}
 use Rattle.frame.specs.declared.Frame.{Frame}
 use Rattle.frame.specs.declared.Decoded.the-variants as decoded
 use Rattle.frame.proofs.Laws.{decoded-in-range}
+use Rattle.guards.specs.Guards.{guardsUnder}
+use Rattle.guards.specs.declared.Judgement.{Judgement}
+use Rattle.guards.specs.declared.GuardsReply.the-variants as guards
 use Rattle.soundness.specs.Soundness.{State, stepped, stepFrame, start}
 use Rattle.soundness.specs.declared.Outcome.the-variants as outcome
 use Rattle.soundness.specs.declared.Level.{Level}
@@ -34,8 +37,10 @@ use Rattle.orderlaws.proofs.Recording.{Pass, end, on, frames-first, start-view,
 use Rattle.orderlaws.proofs.Walk.{Kept, kept-next, kept-start}
 use Rattle.orderlaws.proofs.Order.{reducible-pass}
 use Rattle.orderlaws.proofs.Open.{Reached, reached-depth, reached-next}
+use Rattle.order.specs.declared.OrderReply.the-variants as order
 use Rattle.commitplaces.specs.CommitPlaces.{noted, commitsFrom, commitsOf, commitPlaces}
-use Rattle.commitlaws.specs.CommitLaws.{Starts, Commits, CommitPlacesAreCommits, CommitsLeft, CallsLeaveCommits}
+use Rattle.unitcommits.specs.UnitCommits.{commitsUnder, commitsOutUnder}
+use Rattle.commitlaws.specs.CommitLaws.{Starts, Commits, CommitPlacesAreCommits, CallsLeaveCommits}
 use Rattle.commitlaws.proofs.Entries.{Marks, entry, from, marks-here, marks-next, settled-next, starts-next, stays, noted-long, walk-long, quiet, owned, pending}
 
 -- The entry of place p, of a table t that became `left`.
@@ -51,9 +56,9 @@ module _ (guards all : List ℕ) {i w : ℕ} {s n : State} {j k : Judging} {x : 
   r = decoded-in-range w f d
 
   -- The entry of the frame's own place.
-  here : getD (commits guards all) i 0 ≡ keyOf guards (viewOf s j) i f (framesOf ws) → length all ≡ suc i + length ws → i < length t
+  entry-here : getD (commits guards all) i 0 ≡ keyOf guards (viewOf s j) i f (framesOf ws) → length all ≡ suc i + length ws → i < length t
       → Left guards all i t (commitsFrom guards (suc i) (visited guards i f x) ws (noted (unitStart guards i f x) i t))
-  here key long lt = go (eqb (getD (s .depths) (threadOf f) 0) 0) refl
+  entry-here key long lt = go (eqb (getD (s .depths) (threadOf f) 0) 0) refl
     where
       q : (i < length all) × (getD all i 0 ≡ w) × (drop (suc i) all ≡ ws)
       q = rest-of all i w ws e
@@ -73,23 +78,21 @@ module _ (guards all : List ℕ) {i w : ℕ} {s n : State} {j k : Judging} {x : 
       go : (b : Bool) → eqb (getD (s .depths) (threadOf f) 0) 0 ≡ b → Left guards all i t (commitsFrom guards (suc i) (visited guards i f x) ws t′)
       go true z =
           let from-here : from guards r g o h ≡ i = rw z in
-          let none : eqb (viewOf s j .committed (threadOf f)) 0 ≡ true = rw z in
-          (
+          let none : eqb (viewOf s j .committed (threadOf f)) 0 ≡ true = rw z in (
             λ y. owned guards i (length all) t r g o h rest lt (omega arith) (q .0) from-here none only
-            (λ a. pending guards i (length all) (threadOf f) t′ rest (kept-next guards r g o h) (rw (noted-long (unitStart guards i f x) i t) lt) (omega arith) long only
-            (settled-next guards r g o h (threadOf f) ∙ a) (starts-next guards r g o h (threadOf f) ∙ rw (eq-eqb (threadOf f) (threadOf f) refl) from-here)
-            ∙ ap (λ (c : Run). entry (length all) (commitPlace guards (threadOf f) c (suc i) (framesOf ws)) (getD t′ i 0)) (o .run))
-            ∙ sym (ap (λ (c : ℕ). entry (length all) c (getD t i 0)) (key ∙ rw (none, eq-eqb (threadOf f) (threadOf f) refl))),
+                (λ a. pending guards i (length all) (threadOf f) t′ rest (kept-next guards r g o h) (rw (noted-long (unitStart guards i f x) i t) lt) (omega arith) long only
+                (settled-next guards r g o h (threadOf f) ∙ a) (starts-next guards r g o h (threadOf f) ∙ rw (eq-eqb (threadOf f) (threadOf f) refl) from-here)
+                ∙ ap (λ (c : Run). entry (length all) (commitPlace guards (threadOf f) c (suc i) (framesOf ws)) (getD t′ i 0)) (o .run))
+                ∙ sym (ap (λ (c : ℕ). entry (length all) c (getD t i 0)) (key ∙ rw (none, eq-eqb (threadOf f) (threadOf f) refl))),
             λ y. absurd (y (record { within = q .0; frame = f; is = is; outside = reached-depth all i s reached (threadOf f) ∙ eqb-true _ _ z })),
           )
       go false z =
           let inside : getD (s .depths) (threadOf f) 0 ≡ 0 → ⊥ = eqb-false _ _ z in
-          let elsewhere : Marks (λ v b. b ≡ i → ⊥) s j x = λ v y c. let a = below v y in omega arith in
-          (
+          let elsewhere : Marks (λ v b. b ≡ i → ⊥) s j x = λ v y c. let a = below v y in omega arith in (
             λ y. let same : y .frame ≡ f = let c : decoded.Frame (y .frame) ≡ decoded.Frame f = sym (y .is) ∙ is in cc in
-            absurd (inside (sym (reached-depth all i s reached (threadOf f)) ∙ (ap (λ (c : Frame). depthAfter all (threadOf c) i) (sym same) ∙ y .outside))),
+                absurd (inside (sym (reached-depth all i s reached (threadOf f)) ∙ (ap (λ (c : Frame). depthAfter all (threadOf c) i) (sym same) ∙ y .outside))),
             λ y. quiet guards i t′ rest (kept-next guards r g o h) (omega arith) (marks-next guards r g o h (λ v b. b ≡ i → ⊥) elsewhere (λ c a. inside c))
-            ∙ stays guards r g o h i t (marks-here guards r g o h (λ v b. b ≡ i → ⊥) elsewhere (λ c a. inside c)),
+                ∙ stays guards r g o h i t (marks-here guards r g o h (λ v b. b ≡ i → ⊥) elsewhere (λ c a. inside c)),
           )
 
 -- Every entry from the walk's place on.
@@ -108,7 +111,7 @@ ahead guards all p {x = x} t (on {i = i} {s = s} {j = j} {w = w} {ws = ws} {f = 
     (rw (noted-long (unitStart guards i f x) i t) lt) (omega (arith, ltb-true i p z))))
     (λ z. let same : i ≡ p = omega (arith, ltb-false i p z) in
     subst (λ (m : ℕ). Left guards all m t (commitsFrom guards (suc i) (visited guards i f x) ws t′)) same
-    (here guards all t d g o rest e h reached below (ks .1) long (omega arith))))
+    (entry-here guards all t d g o rest e h reached below (ks .1) long (omega arith))))
   where
     range : InRange f
     range = decoded-in-range w f d
@@ -181,4 +184,21 @@ commit-places-are-commits guards ws t red = record {
   committed = commits-noted guards ws t red;
   uncommitted = open-kept guards ws t red;
   others = others-kept guards ws t red;
+}
+
+-- a list that is accepted, and a recording that is sound: the reply, and what is left
+module _ (j : Judgement) (list ws t : List ℕ) (n : ℕ) (read : guardsUnder j list .reply ≡ guards.Lines n) (red : Reducible (guardsUnder j list .table) ws) where
+  replies : commitsUnder j list ws ≡ order.Written (length ws)
+  unfolding commitsUnder
+  replies = rw (read, judgement-sound (guardsUnder j list .table) fullSets ws verdict.Reducible red)
+
+  leaves : commitsOutUnder j list ws t ≡ commitPlaces (guardsUnder j list .table) ws t
+  unfolding commitsOutUnder
+  leaves = rw (read, judgement-sound (guardsUnder j list .table) fullSets ws verdict.Reducible red)
+
+pub calls-leave-commits : CallsLeaveCommits
+calls-leave-commits j list ws t n read red = record {
+  reply = replies j list ws t n read red;
+  table = subst (λ (l : List ℕ). Commits (guardsUnder j list .table) ws t l) (sym (leaves j list ws t n read red))
+      (commit-places-are-commits (guardsUnder j list .table) ws t red);
 }

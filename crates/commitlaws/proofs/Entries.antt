@@ -1,6 +1,6 @@
 -- What the walk leaves in one entry of the table. In this order: the starts of units that have not committed, as a frame leaves them; the unit
 -- that a frame commits; an entry that no such unit has; the entry of one.
-use Prim.Native.Nat.{ℕ, suc, pred, _+_, _≤_, _<_}
+use Prim.Native.Nat.{ℕ, suc, _+_, _≤_, _<_}
 use mathlib.Core.Path.{_≡_, refl, sym, ap, _∙_, subst}
 use mathlib.Core.Bool.{Bool, true, false, cond, not, _&&_, _||_}
 use mathlib.Core.List.{List, [], _∷_}
@@ -8,7 +8,7 @@ use native.Mathlib.Omega.{arith}
 use native.Mathlib.Numerals.{add-one}
 use borrow.Author.Tests.{eqb-true, eqb-false, eq-eqb, ne-eqb, lt-ltb, le-ltb}
 use lib.Dec.{eqb, ltb}
-use lib.ListN.{length, getD, set, length-set}
+use lib.ListN.{length, getD, length-set}
 use lib.Seq.{getD-set-same, getD-set-other}
 use Rattle.laws.proofs.Logic.{never, by-test}
 use Rattle.laws.proofs.Lists.{getD-set}
@@ -28,7 +28,7 @@ use Rattle.commit.specs.Commit.{Tables, startIn, visited, unitStart}
 use Rattle.reduction.proofs.Run as run
 use Rattle.reduction.proofs.Run.{threadOf, Run, onto, commitPlace, seen}
 use Rattle.orderlaws.proofs.View.{viewOf, OneFrame}
-use Rattle.orderlaws.proofs.Recording.{Pass, end, on, frames-first}
+use Rattle.orderlaws.proofs.Recording.{Pass, end, on}
 use Rattle.orderlaws.proofs.Walk.{Kept, kept-next, commits-are}
 use Rattle.commitplaces.specs.CommitPlaces.{noted, commitsFrom}
 
@@ -60,7 +60,7 @@ mark-commits b i true false m c true em ec = rw (em, ec, ne-eqb (suc i) 0 (λ k.
 mark-commits b i false true m c true em ec = rw (em, ec)
 mark-commits b i false false m c true em ec = rw (em, ec)
 
--- an entry after a unit is noted: of another start, of its own
+-- an entry after a unit is noted: of another start; where none commits; of its own
 noted-other : (c z : Bool) (b i p : ℕ) (t : List ℕ) → (c ≡ true → b ≡ p → ⊥) → getD (noted (cond (c && z) (At b) Absent) i t) p 0 ≡ getD t p 0
 noted-other true true b i p t a = getD-set-other t b p (i + 1) 0 (λ e. a refl (sym e))
 noted-other true false b i p t a = refl
@@ -87,7 +87,7 @@ module _ (guards : List ℕ) {i : ℕ} {s n : State} {j k : Judging} {x : Tables
   abbrev pub from : ℕ
   from = startIn (getD (s .depths) (threadOf f) 0) i (getD (x .starts) (threadOf f) 0)
 
-  -- A unit that starts before the frame and has not committed has its mark, and one that starts with the frame is told.
+  -- What holds of the starts, and of this place where the frame starts a unit: it holds of the start of the frame's unit, and after the frame.
   pub marks-here : (Q : ℕ → ℕ → Type 0) → Marks Q s j x → (getD (s .depths) (threadOf f) 0 ≡ 0 → Q (threadOf f) i) → eqb (viewOf s j .committed (threadOf f)) 0 ≡ true
       → Q (threadOf f) from
   marks-here Q m a c = by-test (eqb (getD (s .depths) (threadOf f) 0) 0)
@@ -105,6 +105,7 @@ module _ (guards : List ℕ) {i : ℕ} {s n : State} {j k : Judging} {x : Tables
       (rw (eq-eqb (threadOf f) (threadOf f) refl) at e) in
       none-before (eqb (nest (getD (s .depths) (threadOf f) 0) (f .action)) 0) (run.committing (seen guards (viewOf s j) f)) i (viewOf s j .committed (threadOf f)) (q .0) (q .1)
 
+  -- thread by thread after the frame
   pub settled-next : (v : ℕ) → run.settled (viewOf n k) v ≡ run.settled (onto guards (viewOf s j) i f) v
   settled-next v = ap (λ (y : Run). run.settled y v) (o .run)
 
@@ -127,6 +128,7 @@ module _ (guards : List ℕ) {i : ℕ} {s n : State} {j k : Judging} {x : Tables
       (mark-commits from i (run.committing (seen guards (viewOf s j) f)) (eqb (nest (getD (s .depths) (threadOf f) 0) (f .action)) 0)
       (getD (x .committed) (threadOf f) 0) (viewOf s j .committed (threadOf f)) (eqb (viewOf s j .committed (threadOf f)) 0) (h .committed-is (threadOf f)) refl)
 
+  -- an entry that is not of the frame's unit; one where the unit does not commit; the unit's where it does
   pub stays : (p : ℕ) (t : List ℕ) → (eqb (viewOf s j .committed (threadOf f)) 0 ≡ true → from ≡ p → ⊥)
       → getD (noted (unitStart guards i f x) i t) p 0 ≡ getD t p 0
   stays p t a = rw unit-start (noted-other (eqb (viewOf s j .committed (threadOf f)) 0) (run.settled (onto guards (viewOf s j) i f) (threadOf f)) from i p t a)
