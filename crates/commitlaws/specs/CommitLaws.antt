@@ -1,6 +1,7 @@
 -- The table of commits has the commits of the serial order: what `commitplaces::write_commits` leaves is `commitPlaces`, what the calls by a
 -- judgement answer and leave is `commitsUnder`, `commitsOutUnder`; the commits are `commits` of serial/Order. In this order: where units
 -- start; a table before and after; the two claims.
+-- Quotes are from docs/FORMAT.md.
 use Prim.Native.Nat.{ℕ, _+_, _≤_, _<_}
 use mathlib.Core.Path.{_≡_}
 use mathlib.Core.List.{List}
@@ -28,9 +29,9 @@ pub record Starts (ws : List ℕ) (i : ℕ) : Type 0 where
 pub record Commits (guards ws t left : List ℕ) : Type 0 where
   -- The table keeps its length.
   pub as-long : length left ≡ length t
-  -- Where a unit starts that commits within the recording, the entry is one more than its commit in the serial order.
+  -- "for each unit that commits, at the place where it starts, its commit plus 1": the commit of the serial order, within the recording.
   pub committed : (i : ℕ) → i < length t → Starts ws i → getD (commits guards ws) i 0 < length ws → getD left i 0 ≡ getD (commits guards ws) i 0 + 1
-  -- Where a unit starts that does not, as its block is still open, the entry is what it was.
+  -- Where a unit starts that does not commit, as its block is still open, the entry is what it was.
   pub uncommitted : (i : ℕ) → Starts ws i → length ws ≤ getD (commits guards ws) i 0 → getD left i 0 ≡ getD t i 0
   -- Every other entry, inside blocks and beyond the recording, is what it was.
   pub others : (i : ℕ) → (Starts ws i → ⊥) → getD left i 0 ≡ getD t i 0
