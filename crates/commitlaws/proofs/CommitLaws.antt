@@ -69,9 +69,6 @@ module _ (guards all : List ℕ) {i w : ℕ} {s n : State} {j k : Judging} {x : 
       t′ : List ℕ
       t′ = noted (unitStart guards i f x) i t
 
-      placed : ℕ
-      placed = commitPlace guards (threadOf f) (onto guards (viewOf s j) i f) (suc i) (framesOf ws)
-
       only : Marks (λ v b. b ≡ i → v ≡ threadOf f) n k (visited guards i f x)
       only = marks-next guards r g o h (λ v b. b ≡ i → v ≡ threadOf f) (λ v y z. absurd (let a = below v y in omega arith)) (λ z y. refl)
 
