@@ -1,20 +1,22 @@
--- Laws of decoding: what is decoded is in its ranges, and decoding and encoding undo each other.
+-- Laws of decoding: what is decoded is in its ranges, decoding and encoding undo each other, and the parts of a word are those of its frame.
 use Prim.Native.Nat.{ℕ, zero, suc, _/_, _%_, _<_, _≤_}
-use mathlib.Core.Path.{_≡_, refl, ap, _∙_}
+use mathlib.Core.Path.{_≡_, refl, ap, _∙_, subst}
 use mathlib.Core.Bool.{Bool, true, false}
 use native.Mathlib.Omega.{arith}
 use lib.Dec.{ltb, leb}
-use borrow.Author.Tests.{lt-leb, lt-ltb, ltb-false, ltb-true, leb-false, eqb-true}
+use borrow.Author.Tests.{lt-leb, lt-ltb, le-ltb, ltb-false, ltb-true, leb-false, eqb-true}
 use Rattle.laws.proofs.Logic.{never}
 use Rattle.frame.specs.declared.Refusal.{Refusal}
 use Rattle.frame.specs.Limits.{threadCount, lockCount, variableCount}
-use Rattle.frame.specs.Frame.{objectFits, actionOf, decodeParts, decodeWord, wordOf, encodeParts, encodeFrame, ObjectInRange, InRange}
+use Rattle.frame.specs.Frame.{objectFits, actionOf, decodeParts, decodeWord, splitParts, splitWord, wordOf, encodeParts, encodeFrame, ObjectInRange, InRange}
 use Rattle.frame.specs.Refusal.{refusalNumber}
 use Rattle.frame.specs.declared.Frame.{Frame}
 use Rattle.frame.specs.declared.Action.{Action}
 use Rattle.frame.specs.declared.Action.the-variants.{Acquire, Release, Read, Write, Begin, End}
 use Rattle.frame.specs.declared.Refusal.the-variants as refusal
 use Rattle.frame.specs.declared.Decoded.the-variants as decoded
+use Rattle.frame.specs.declared.Parts.{Parts}
+use Rattle.frame.specs.declared.Split.the-variants as split
 
 -- what a decoded frame shows of the parts of its word
 pub record Shown (op t o : ℕ) (f : Frame) : Type 0 where
@@ -80,6 +82,53 @@ decoded-in-range w f e =
       object = object-fits (operation (w / 16777216) (s .low) (s .high)) (w % 65536) (s .object);
     } in
     rw (s .frame) p
+
+-- what the parts of a word show: they are in their ranges, and the word decodes as they do
+pub record Apart (op t o : ℕ) (p : Parts) : Type 0 where
+  pub low : 1 ≤ p .operation
+  pub high : p .operation ≤ 6
+  pub thread : p .thread .0 < threadCount
+  pub object : p .object < variableCount
+  pub whole : decodeParts op t o ≡ decodeParts (p .operation) (p .thread .0) (p .object)
+
+same-parts : (p q : Parts) → split.Parts p ≡ split.Parts q → p ≡ q
+same-parts p q e = cc
+
+pub apart : (op t o : ℕ) (p : Parts) → splitParts op t o ≡ split.Parts p → Apart op t o p
+unfolding splitParts
+apart op t o p e = go (ltb op 1) refl (leb 7 op) refl (leb threadCount t) refl (leb variableCount o) refl
+  where
+    go : (a : Bool) → ltb op 1 ≡ a → (b : Bool) → leb 7 op ≡ b → (d : Bool) → leb threadCount t ≡ d → (g : Bool) → leb variableCount o ≡ g → Apart op t o p
+    go true x b y d z g u = let v : split.Bad ≡ split.Parts p = rw x at e in never (cc)
+    go false x true y d z g u = let v : split.Bad ≡ split.Parts p = rw (x, y) at e in never (cc)
+    go false x false y true z g u = let v : split.Bad ≡ split.Parts p = rw (x, y, z) at e in never (cc)
+    go false x false y false z true u = let v : split.Bad ≡ split.Parts p = rw (x, y, z, u) at e in never (cc)
+    go false x false y false z false u =
+        let v : Apart op t o (record { operation = op; thread = record { 0 = t }; object = o }) = record {
+          low = ltb-false op 1 x;
+          high = omega (arith, leb-false 7 op y);
+          thread = leb-false threadCount t z;
+          object = leb-false variableCount o u;
+          whole = refl;
+        } in
+        subst (Apart op t o) (same-parts _ _ (rw (x, y, z, u) at e)) v
+
+object-small : {op : ℕ} → Operation op → (o : ℕ) → objectFits op o ≡ true → o < variableCount
+object-small acquire o e = omega (arith, ltb-true o lockCount e)
+object-small release o e = omega (arith, ltb-true o lockCount e)
+object-small read o e = omega (arith, ltb-true o variableCount e)
+object-small write o e = omega (arith, ltb-true o variableCount e)
+object-small begin o e = omega (arith, eqb-true o 0 e)
+object-small end o e = omega (arith, eqb-true o 0 e)
+
+-- no frame is bad
+pub frame-splits : (w : ℕ) (f : Frame) → decodeWord w ≡ decoded.Frame f
+    → splitWord w ≡ split.Parts (record { operation = w / 16777216; thread = record { 0 = w / 65536 % 256 }; object = w % 65536 })
+unfolding splitParts
+frame-splits w f e =
+    let s = shown (w / 16777216) (w / 65536 % 256) (w % 65536) f e in
+    let h = object-small (operation (w / 16777216) (s .low) (s .high)) (w % 65536) (s .object) in
+    simp (le-ltb (w / 16777216) 1 (s .low), lt-leb 7 (w / 16777216) (omega (arith, s .high)), lt-leb threadCount (w / 65536 % 256) (s .thread), lt-leb variableCount (w % 65536) h)
 
 encoded : {op : ℕ} → Operation op → (t o : ℕ) → objectFits op o ≡ true → encodeParts t (actionOf op o) ≡ wordOf op t o
 encoded acquire t o e = refl

@@ -13,6 +13,8 @@ use Rattle.frame.specs.declared.Refusal.{Refusal}
 use Rattle.frame.specs.declared.Refusal.the-variants as refusal
 use Rattle.frame.specs.declared.Decoded.{Decoded}
 use Rattle.frame.specs.declared.Decoded.the-variants as decoded
+use Rattle.frame.specs.declared.Split.{Split}
+use Rattle.frame.specs.declared.Split.the-variants as split
 
 -- The table's objects: "lock 0 to 63" for the operations 1 and 2, "variable 0 to 1023" for 3 and 4, "0" for 5 and 6.
 abbrev pub objectFits : ℕ → ℕ → Bool
@@ -38,6 +40,18 @@ decodeParts op t o =
 
 abbrev pub decodeWord : ℕ → Decoded
 decodeWord w = decodeParts (w / 16777216) (w / 65536 % 256) (w % 65536)
+
+-- The parts as numbers: "operation not 1 to 6", "thread above 31" and objects above all of the table are bad. Whether an object fits its
+-- operation is left open.
+unfoldable pub splitParts : ℕ → ℕ → ℕ → Split
+splitParts op t o =
+    cond (ltb op 1) split.Bad
+    (cond (leb 7 op) split.Bad
+    (cond (leb threadCount t) split.Bad
+    (cond (leb variableCount o) split.Bad (split.Parts (record { operation = op; thread = record { 0 = t }; object = o })))))
+
+abbrev pub splitWord : ℕ → Split
+splitWord w = splitParts (w / 16777216) (w / 65536 % 256) (w % 65536)
 
 -- The refusal of a word that does not decode (asked of no other).
 abbrev pub refusalOf : Decoded → Refusal

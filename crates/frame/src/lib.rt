@@ -1,7 +1,7 @@
 // Frames (the field's term is event): a 32-bit word taken apart into a thread and what it does, and put together again.
 // Also the refusals that every part of the library answers with.
 ghost use mathlib.Core.Path.{_≡_};
-ghost use Rattle.frame.specs.Frame.{decodeWord, encodeFrame, wordOf, refusalOf};
+ghost use Rattle.frame.specs.Frame.{decodeWord, splitWord, encodeFrame, wordOf, refusalOf};
 ghost use Rattle.frame.specs.Refusal.{refusalNumber};
 
 // The limits of a recording: its threads, locks, variables and frames, the blocks that a thread may have open, and how often it may hold a
@@ -30,6 +30,9 @@ const LOCK_END: u32 = LOCKS as u32;
 const VARIABLE_END: u32 = VARIABLES as u32;
 
 const THREAD_END: u32 = THREADS as u32;
+
+// The first number that names no thread, as a byte.
+const THREAD_BYTE_END: u8 = THREADS as u8;
 
 // The three domains of numbers that a frame names.
 pub struct Thread(pub u8);
@@ -85,6 +88,19 @@ pub struct Refused {
 pub enum Decoded {
     Frame(Frame),
     Bad(Refusal),
+}
+
+// The three parts of a word: an operation 1 to 6, a thread, and an object that is below the number of variables.
+pub struct Parts {
+    pub operation: u8,
+    pub thread: Thread,
+    pub object: u16,
+}
+
+// Bad where a part is outside its range. No frame is.
+pub enum Split {
+    Parts(Parts),
+    Bad,
 }
 
 pub fn decode(word: u32) -> Decoded
@@ -147,6 +163,32 @@ pub fn decode(word: u32) -> Decoded
     Decoded::Frame(Frame {
         thread: t,
         action: Action::End,
+    })
+}
+
+// The parts of a word as numbers. Whether the object is one that the operation can have is not asked.
+pub fn split_word(word: u32) -> Split
+    ensures { λ r. ⌜ r ≡ splitWord word ⌝ }
+{
+    let op = word / 16777216;
+    let thread = (word / 65536 % 256) as u8;
+    let object = word % 65536;
+    if op < 1 {
+        return Split::Bad;
+    }
+    if 7 <= op {
+        return Split::Bad;
+    }
+    if THREAD_BYTE_END <= thread {
+        return Split::Bad;
+    }
+    if VARIABLE_END <= object {
+        return Split::Bad;
+    }
+    Split::Parts(Parts {
+        operation: op as u8,
+        thread: Thread(thread),
+        object: object as u16,
     })
 }
 

@@ -7,6 +7,7 @@ use frame::MOST_HELD;
 use frame::MOST_PLACE;
 use frame::Refusal;
 use frame::Refused;
+use frame::Split;
 use frame::THREADS;
 use frame::VARIABLES;
 use soundness::CheckReply;
@@ -19,8 +20,6 @@ ghost use Rattle.quick.specs.Quick.{picked, objectEnd, heldEnd, ownerAft
 const LOCK_END: u32 = LOCKS as u32;
 
 const VARIABLE_END: u32 = VARIABLES as u32;
-
-const THREAD_END: u32 = THREADS as u32;
 
 const HELD_END: u8 = MOST_HELD + 1;
 
@@ -86,24 +85,18 @@ fn passes(
 ) -> bool
     ensures { λ r. ⌜ PassedBy r w (stateOf (now (owners .entry)) (now (counts .entry)) (now (depths .entry))) (stateOf (now (owners .exit)) (now (counts .exit)) (now (depths .exit))) ⌝ }
 {
-    let op = w / 16777216;
-    let thread = w / 65536 % 256;
-    let object = w % 65536;
-    if op < 1 {
+    let Split::Parts(p) = frame::split_word(w) else {
         return false;
-    }
-    if 6 < op {
-        return false;
-    }
-    if THREAD_END <= thread {
-        return false;
-    }
+    };
+    let op = p.operation as u32;
+    let thread = p.thread.0;
+    let object = p.object as u32;
     if object_end(op) <= object {
         return false;
     }
     let k = (object % LOCK_END) as usize;
     let j = thread as usize;
-    let own = thread as u8 + 1;
+    let own = thread + 1;
     let have = owners[k];
     let count = counts[k];
     let d = depths[j];
