@@ -41,14 +41,14 @@ equalReply l r = afterChecks (checkReply l) (checkReply r) (equalWords l r)
 -- the right." The words themselves are exchanged.
 abbrev pub EqualIsExchanges : Type 0
 EqualIsExchanges =
-    (l r : List ℕ) → checkReply l ≡ sound → checkReply r ≡ sound
-    → (equalReply l r ≡ Equal ↔ Exchanges independentWords l r)
+    (l r : List ℕ)
+    → checkReply l ≡ sound → checkReply r ≡ sound → (equalReply l r ≡ Equal ↔ Exchanges independentWords l r)
 
 -- "Equality is yes or no": of two recordings that pass the check there is no refusal.
 abbrev pub EqualIsYesOrNo : Type 0
 EqualIsYesOrNo =
-    (l r : List ℕ) → checkReply l ≡ sound → checkReply r ≡ sound
-    → equalReply l r ≡ yesOrNo (equalWords l r)
+    (l r : List ℕ)
+    → checkReply l ≡ sound → checkReply r ≡ sound → equalReply l r ≡ yesOrNo (equalWords l r)
 
 -- "recordings of different length are not equal"
 abbrev pub LengthsDiffer : Type 0
