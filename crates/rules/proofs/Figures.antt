@@ -294,15 +294,17 @@ verdict-is-of-the-rules guards ws sound = (
         let z : u ≡ v = cc in
         subst (ToldBy (guarding guards) ws) z told
 
--- Two ways of giving guards that agree on every variable of a frame.
-module _ (P Q : ℕ → Guard) (same : (x : ℕ) → x < variableCount → P x ≡ Q x) where
+-- Two ways of giving guards. Where they agree on what an action accesses, it steps, or goes wrong, with both.
+module _ (P Q : ℕ → Guard) where
+  abbrev pub Alike : Action → Type 0
+  Alike a = (x : Variable) → Accesses a x → P (x .0) ≡ Q (x .0)
+
   -- the guard of a variable that is accessed
-  same-guard : {a : Action} {x : Variable} {g : Guard} → ObjectInRange a → Accesses a x → P (x .0) ≡ g → Q (x .0) ≡ g
-  same-guard {x = x} h reads e = sym (same (x .0) h) ∙ e
-  same-guard {x = x} h writes e = sym (same (x .0) h) ∙ e
+  same-guard : {a : Action} {x : Variable} {g : Guard} → Alike a → Accesses a x → P (x .0) ≡ g → Q (x .0) ≡ g
+  same-guard {x = x} h c e = sym (h x c) ∙ e
 
   module _ {s : State} {φ : Store} {t : ℕ} where
-    same-steps : {a : Action} {φ′ : Store} → ObjectInRange a → Steps P s φ t a φ′ → Steps Q s φ t a φ′
+    pub same-steps : {a : Action} {φ′ : Store} → Alike a → Steps P s φ t a φ′ → Steps Q s φ t a φ′
     same-steps h (ins-access-protected c g o) = ins-access-protected c (same-guard h c g) o
     same-steps h (ins-race-commit c g e) = ins-race-commit c (same-guard h c g) e
     same-steps h (ins-race-outside c g e) = ins-race-outside c (same-guard h c g) e
@@ -317,25 +319,31 @@ module _ (P Q : ℕ → Guard) (same : (x : ℕ) → x < variableCount → P x �
     same-steps h (ins-nested-exit l) = ins-nested-exit l
     same-steps h (ins2-access c g n) = ins2-access c (same-guard h c g) n
 
-    same-wrong : {a : Action} {k : Kind} → ObjectInRange a → Wrong P s φ t a k → Wrong Q s φ t a k
+    same-wrong : {a : Action} {k : Kind} → Alike a → Wrong P s φ t a k → Wrong Q s φ t a k
     same-wrong h (wrong-access-protected c g o) = wrong-access-protected c (same-guard h c g) o
     same-wrong h (wrong-race-violate c g e) = wrong-race-violate c (same-guard h c g) e
     same-wrong h (wrong-acquire n e) = wrong-acquire n e
     same-wrong h (wrong2-race c g e) = wrong2-race c (same-guard h c g) e
 
+-- where they agree on every variable
+module _ (P Q : ℕ → Guard) (same : (x : ℕ) → x < variableCount → P x ≡ Q x) where
+  alike : {a : Action} → ObjectInRange a → Alike P Q a
+  alike h x reads = same (x .0) h
+  alike h x writes = same (x .0) h
+
   -- a recording steps, or goes wrong, with both
   same-all : {s : State} {φ : Store} {ws : List ℕ} → AllStep P s φ ws → AllStep Q s φ ws
   same-all end = end
-  same-all (step {w = w} {f = f} d e r rest) = step d e (same-steps (decoded-in-range w f d .object) r) (same-all rest)
+  same-all (step {w = w} {f = f} d e r rest) = step d e (same-steps P Q (alike (decoded-in-range w f d .object)) r) (same-all rest)
 
   same-at : {s : State} {φ : Store} {ws : List ℕ} {i : ℕ} {k : Kind} → WrongAt P s φ ws i k → WrongAt Q s φ ws i k
-  same-at (here {w = w} {f = f} d e r) = here d e (same-wrong (decoded-in-range w f d .object) r)
-  same-at (later {w = w} {f = f} d e r rest) = later d e (same-steps (decoded-in-range w f d .object) r) (same-at rest)
+  same-at (here {w = w} {f = f} d e r) = here d e (same-wrong P Q (alike (decoded-in-range w f d .object)) r)
+  same-at (later {w = w} {f = f} d e r rest) = later d e (same-steps P Q (alike (decoded-in-range w f d .object)) r) (same-at rest)
 
   -- the rules lead to the same places, so they tell the same marks and locks
   same-reaches : {s m : State} {φ ψ : Store} {ws : List ℕ} {i : ℕ} → Reaches P s φ ws i m ψ → Reaches Q s φ ws i m ψ
   same-reaches none = none
-  same-reaches (more {w = w} {f = f} d e r rest) = more d e (same-steps (decoded-in-range w f d .object) r) (same-reaches rest)
+  same-reaches (more {w = w} {f = f} d e r rest) = more d e (same-steps P Q (alike (decoded-in-range w f d .object)) r) (same-reaches rest)
 
   same-mark : (ws : List ℕ) (t : ℕ) (R : Stage → Type 0) (i : ℕ) (m : Mark) → MarkIs P ws t R i m → MarkIs Q ws t R i m
   same-mark ws t R i (At b) h = record {
@@ -362,7 +370,7 @@ module _ (P Q : ℕ → Guard) (same : (x : ℕ) → x < variableCount → P x �
         frame = h .frame;
         reached = same-reaches (h .reached);
         word = h .word;
-        goes-wrong = same-wrong o (h .goes-wrong);
+        goes-wrong = same-wrong P Q (alike o) (h .goes-wrong);
         thread = h .thread;
         begin = same-mark ws (h .frame .thread .0) InBlock (v .frame) (v .begin) (h .begin);
         commit = same-mark ws (h .frame .thread .0) Committed (v .frame) (v .commit) (h .commit);
@@ -381,11 +389,11 @@ with-same P Q same ws r (a, b, c) = (
     back x h = sym (same x h)
 
 -- an accepted list, and a table with room, leave the judgement's reply
-accepted : (list ws : List ℕ) (n : ℕ) → guardsRead list .reply ≡ guards-reply.Lines n → verdictUnder Declared list ws ≡ judgement (guardsRead list .table) fullSets ws .reply
+pub accepted : (list ws : List ℕ) (n : ℕ) → guardsRead list .reply ≡ guards-reply.Lines n → verdictUnder Declared list ws ≡ judgement (guardsRead list .table) fullSets ws .reply
 unfolding verdictUnder
 accepted list ws n e = rw e
 
-with-room : (ws : List ℕ) (m : ℕ) → variableCount ≤ m → inferredReply ws m ≡ judgement inferredGuards fullSets ws .reply
+pub with-room : (ws : List ℕ) (m : ℕ) → variableCount ≤ m → inferredReply ws m ≡ judgement inferredGuards fullSets ws .reply
 unfolding inferredReply
 with-room ws m h = go (judgement inferredGuards fullSets ws .reply)
   where

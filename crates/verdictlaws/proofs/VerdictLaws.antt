@@ -12,7 +12,6 @@ use Rattle.text.specs.Text.{scanned, wordsTo}
 use Rattle.text.specs.declared.ReadReply.{ReadReply}
 use Rattle.text.specs.declared.ReadReply.the-variants as read
 use Rattle.guards.specs.Guards.{guardsRead}
-use Rattle.guards.specs.declared.GuardsReply.the-variants as guards
 use Rattle.guards.specs.declared.Judgement.the-variants as judgement
 use Rattle.guards.proofs.Named.{listed-guard}
 use Rattle.reply.specs.Reply.{kindNumber, reducible}
@@ -21,9 +20,9 @@ use Rattle.reply.specs.declared.Kind.the-variants as kind
 use Rattle.reply.specs.declared.Reply.{Reply}
 use Rattle.reply.specs.declared.Reply.the-variants as reply
 use Rattle.reply.specs.declared.Verdict.the-variants as verdict
-use Rattle.pass.specs.Pass.{fullSets, judgement}
+use Rattle.pass.specs.Pass.{fullSets}
 use Rattle.pass.proofs.Judgement.{judgement-sound}
-use Rattle.verdict.specs.Verdict.{verdictUnder, withTable, inferredEnd, inferredReply}
+use Rattle.verdict.specs.Verdict.{verdictUnder, inferredEnd, inferredReply}
 use Rattle.verdict.proofs.Laws.{own-table}
 use Rattle.line.specs.Line.{lineLength}
 use Rattle.answer.specs.Answer.{replyKind, textJudged}
@@ -31,25 +30,14 @@ use Rattle.trace.specs.Trace.{kindAnswer}
 use Rattle.rules.specs.Choice.{Choice, Reducible}
 use Rattle.rules.specs.Figures.{guarding}
 use Rattle.rules.proofs.Choice.{inferred-verdict-is-some-choice}
-use Rattle.rules.proofs.Figures.{verdict-is-of-the-rules, inferred-is-of-the-rules}
+use Rattle.rules.proofs.Figures.{verdict-is-of-the-rules, inferred-is-of-the-rules, accepted, with-room}
 use Rattle.verdictlaws.specs.VerdictLaws.{Accessed, SomeList, InferredIsSomeList, CheckIsSomeList, CheckIsOfTheRules}
 use Rattle.verdictlaws.proofs.Alike.{accessed-in-range, same-accessed}
 use Rattle.verdictlaws.proofs.Lists.{naming, naming-accepted, naming-table, naming-names, lock-code, tableLocks, table-choice, table-locks}
 
--- the declared verdict with an accepted list is that with its table
-with-list : (list ws : List ℕ) (n : ℕ) → guardsRead list .reply ≡ guards.Lines n
-    → verdictUnder judgement.Declared list ws ≡ judgement (guardsRead list .table) fullSets ws .reply
-unfolding verdictUnder
-with-list list ws n e = rw e
-
 -- the inferred verdict is the same with every table that has room, and with none
-with-room : (ws : List ℕ) (m : ℕ) → variableCount ≤ m → inferredReply ws m ≡ inferredReply ws variableCount
-unfolding inferredReply
-with-room ws m h = go (inferredEnd ws .reply)
-  where
-    go : (r : Reply) → withTable r m ≡ withTable r variableCount
-    go (reply.Refused x) = refl
-    go (reply.Judged v) = rw (le-ltb m variableCount h)
+same-room : (ws : List ℕ) (m : ℕ) → variableCount ≤ m → inferredReply ws m ≡ inferredReply ws variableCount
+same-room ws m h = with-room ws m h ∙ sym (with-room ws variableCount (omega arith))
 
 on-words : (list ws : List ℕ) → verdictUnder judgement.Inferred list ws ≡ inferredReply ws variableCount
 unfolding verdictUnder inferredReply
@@ -75,7 +63,7 @@ to-list ws r = made (inferred-verdict-is-some-choice ws .0 r)
           accepted = naming-accepted locks (c .small) variableCount (omega arith);
           names = λ x a. (record { 0 = getD locks x 0 }, naming-names locks (c .small) variableCount (omega arith) x (accessed-in-range ws x a));
           judged =
-              with-list l ws variableCount (naming-accepted locks (c .small) variableCount (omega arith))
+              accepted l ws variableCount (naming-accepted locks (c .small) variableCount (omega arith))
               ∙ reducible-alike ws locks (guardsRead l .table)
               (λ x a.
               lock-code (getD locks x 0) (c .small x)
@@ -95,14 +83,14 @@ from-list ws a =
           let h = accessed-in-range ws x c in
           let l = a .names x c in
           table-locks table x (l .0) h (sym (listed-guard (a .list) (a .n) (a .accepted) x h) ∙ l .1))
-          (sym (with-list (a .list) ws (a .n) (a .accepted)) ∙ a .judged),
+          (sym (accepted (a .list) ws (a .n) (a .accepted)) ∙ a .judged),
     )
 
 -- "With inferred guards a recording is reducible exactly if it is so with some choice of one lock for each accessed variable as its declared
 -- guard."
 pub inferred-is-some-list : InferredIsSomeList
 inferred-is-some-list = (
-  λ ws m h. (λ r. to-list ws (sym (with-room ws m h) ∙ r), λ a. with-room ws m h ∙ from-list ws a),
+  λ ws m h. (λ r. to-list ws (sym (same-room ws m h) ∙ r), λ a. same-room ws m h ∙ from-list ws a),
   λ list ws. (λ r. to-list ws (sym (on-words list ws) ∙ r), λ a. on-words list ws ∙ from-list ws a),
 )
 
