@@ -1,5 +1,5 @@
 -- The third term. In this order: what the comparison's Equal shows; the serial order of a reducible, closed recording; a request for it and
--- its refusals; the term.
+-- its refusals; the term; the one place of 14.
 use Prim.Native.Nat.{ℕ, _+_, _≤_}
 use mathlib.Core.Path.{_≡_, refl, sym, ap, _∙_}
 use mathlib.Core.Logic.{_↔_}
@@ -12,7 +12,7 @@ use lib.ListN.{length}
 use Rattle.frame.specs.Refusal.{refusedAt}
 use Rattle.pass.specs.Pass.{judgeFrom, startJudging, fullSets, judgement, openAtEnd}
 use Rattle.turn.specs.Turn.{judgeFrame}
-use Rattle.laws.proofs.Logic.{never}
+use Rattle.laws.proofs.Logic.{never, by-test}
 use Rattle.frame.specs.Frame.{decodeWord}
 use Rattle.frame.specs.declared.Frame.{Frame}
 use Rattle.frame.specs.declared.Decoded.the-variants as decoded
@@ -44,14 +44,14 @@ use Rattle.exchange.specs.Exchange.{Exchanges, independentWords}
 use Rattle.equal.proofs.Exchanges.{equal-is-exchanges}
 use Rattle.equal.specs.Equal.{afterChecks, equalWords, equalReply}
 use Rattle.equal.specs.declared.EqualReply.the-variants as equal
-use Rattle.serial.specs.Order.{serialWords, Closed}
+use Rattle.serial.specs.Order.{serialWords, Closed, Open}
 use Rattle.orderlaws.proofs.Order.{order-exchanges, order-contiguous, closed-open}
 use Rattle.orderlaws.proofs.Open.{none-closed, first-open}
 use Rattle.order.specs.Order as asked-for
 use Rattle.order.specs.Order.{reducibleReply, closedReply, replyBy, outAfter, onList, replyUnder, orderUnder, outUnder}
 use Rattle.order.specs.declared.OrderReply.{OrderReply}
 use Rattle.order.specs.declared.OrderReply.the-variants as order
-use Rattle.demand.specs.Demand.{Sound, RefusedBy, in-list, in-recording, irreducible, still-open, no-room, Asked, ThirdTerm}
+use Rattle.demand.specs.Demand.{Sound, RefusedBy, in-list, in-recording, irreducible, still-open, no-room, Asked, ThirdTerm, OneFirstOpen}
 
 -- recordings that compare as equal are sound
 equal-sound : (p q : CheckReply) (b : Bool) → afterChecks p q b ≡ equal.Equal → (p ≡ check.Sound) × (q ≡ check.Sound)
@@ -168,3 +168,13 @@ third-term = (
   λ table ws r c. (order-equal table ws r c, order-contiguous table ws r c),
   asked-for-order,
 )
+
+-- A thread's block that is open at the end begins at one place, and the first such begin is one place.
+one-open : (ws : List ℕ) (t b c : ℕ) → Open ws t b → Open ws t c → b ≡ c
+one-open ws t b c h k =
+    by-test (ltb b c) (λ q. absurd (h .stays c (ltb-true b c q) (omega (arith, k .within)) (k .raised)))
+    (λ q. by-test (ltb c b) (λ r. absurd (k .stays b (ltb-true c b r) (omega (arith, h .within)) (h .raised)))
+    (λ r. omega (arith, ltb-false b c q, ltb-false c b r)))
+
+pub one-first-open : OneFirstOpen
+one-first-open = (one-open, λ ws b c h k. omega (arith, h .smallest (k .thread) c (k .is-open), k .smallest (h .thread) b (h .is-open)))

@@ -1,6 +1,6 @@
 -- The third term: one claim over whole recordings, about the definitions that the calls' contracts cite. What `equal::equal` answers is
 -- `equalReply`; what `order::order` answers and leaves in the output is `orderUnder`, `outUnder`. In this order: a request, its refusal and
--- its answer; the term.
+-- its answer; the term; that 14 has one place.
 -- Quotes are from docs/FORMAT.md.
 use Prim.Native.Nat.{ℕ, _≤_, _<_}
 use mathlib.Core.Path.{_≡_}
@@ -24,7 +24,7 @@ use Rattle.rules.specs.Choice.{Reducible}
 use Rattle.exchange.specs.Exchange.{Exchanges, independentWords}
 use Rattle.equal.specs.Equal.{equalReply}
 use Rattle.equal.specs.declared.EqualReply.the-variants as equal
-use Rattle.serial.specs.Order.{serialWords, Closed, FirstOpen, Contiguous}
+use Rattle.serial.specs.Order.{serialWords, Closed, Open, FirstOpen, Contiguous}
 use Rattle.order.specs.Order.{orderUnder, outUnder}
 use Rattle.order.specs.declared.OrderReply.{OrderReply}
 use Rattle.order.specs.declared.OrderReply.the-variants as order
@@ -62,3 +62,9 @@ ThirdTerm =
     × ((j : Judgement) (list ws out : List ℕ)
     → Asked refusal.OutputBuffer (guardsUnder j list .reply) (guardsUnder j list .table) ws (serialWords (guardsUnder j list .table) ws) out
     (orderUnder j list ws (length out)) (outUnder j list ws out))
+
+-- "smallest place of an open outermost begin": a thread has one block at most that is open at the end, and so 14 has one place.
+abbrev pub OneFirstOpen : Type 0
+OneFirstOpen =
+    ((ws : List ℕ) (t b c : ℕ) → Open ws t b → Open ws t c → b ≡ c)
+    × ((ws : List ℕ) (b c : ℕ) → FirstOpen ws b → FirstOpen ws c → b ≡ c)

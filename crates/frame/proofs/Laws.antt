@@ -4,11 +4,11 @@ use mathlib.Core.Path.{_≡_, refl, ap, _∙_, subst}
 use mathlib.Core.Bool.{Bool, true, false}
 use native.Mathlib.Omega.{arith}
 use lib.Dec.{ltb, leb}
-use borrow.Author.Tests.{lt-leb, lt-ltb, le-ltb, ltb-false, ltb-true, leb-false, eqb-true}
+use borrow.Author.Tests.{lt-leb, lt-ltb, ltb-false, ltb-true, leb-false, eqb-true}
 use Rattle.laws.proofs.Logic.{never}
 use Rattle.frame.specs.declared.Refusal.{Refusal}
 use Rattle.frame.specs.Limits.{threadCount, lockCount, variableCount}
-use Rattle.frame.specs.Frame.{objectFits, actionOf, decodeParts, decodeWord, splitParts, splitWord, wordOf, encodeParts, encodeFrame, ObjectInRange, InRange}
+use Rattle.frame.specs.Frame.{objectFits, actionOf, decodeParts, decodeWord, splitParts, wordOf, encodeParts, encodeFrame, ObjectInRange, InRange}
 use Rattle.frame.specs.Refusal.{refusalNumber}
 use Rattle.frame.specs.declared.Frame.{Frame}
 use Rattle.frame.specs.declared.Action.{Action}
@@ -112,23 +112,6 @@ apart op t o p e = go (ltb op 1) refl (leb 7 op) refl (leb threadCount t) refl (
           whole = refl;
         } in
         subst (Apart op t o) (same-parts _ _ (rw (x, y, z, u) at e)) v
-
-object-small : {op : ℕ} → Operation op → (o : ℕ) → objectFits op o ≡ true → o < variableCount
-object-small acquire o e = omega (arith, ltb-true o lockCount e)
-object-small release o e = omega (arith, ltb-true o lockCount e)
-object-small read o e = omega (arith, ltb-true o variableCount e)
-object-small write o e = omega (arith, ltb-true o variableCount e)
-object-small begin o e = omega (arith, eqb-true o 0 e)
-object-small end o e = omega (arith, eqb-true o 0 e)
-
--- no frame is bad
-pub frame-splits : (w : ℕ) (f : Frame) → decodeWord w ≡ decoded.Frame f
-    → splitWord w ≡ split.Parts (record { operation = w / 16777216; thread = record { 0 = w / 65536 % 256 }; object = w % 65536 })
-unfolding splitParts
-frame-splits w f e =
-    let s = shown (w / 16777216) (w / 65536 % 256) (w % 65536) f e in
-    let h = object-small (operation (w / 16777216) (s .low) (s .high)) (w % 65536) (s .object) in
-    simp (le-ltb (w / 16777216) 1 (s .low), lt-leb 7 (w / 16777216) (omega (arith, s .high)), lt-leb threadCount (w / 65536 % 256) (s .thread), lt-leb variableCount (w % 65536) h)
 
 encoded : {op : ℕ} → Operation op → (t o : ℕ) → objectFits op o ≡ true → encodeParts t (actionOf op o) ≡ wordOf op t o
 encoded acquire t o e = refl
