@@ -1,4 +1,7 @@
 // What the functions for C programs share: a verdict line with its kind, the verdict on a text.
+
+#![tactic(auto)]
+
 ghost use Rattle.std.specs.Prelude.{◌≡◌, ◌++◌, ◌≤◌, length, drop};
 ghost use Rattle.line.specs.Line.{line_length, verdict_line};
 ghost use Rattle.answer.specs.Answer.{reply_kind, text_judged};
@@ -8,7 +11,7 @@ use reply::Reply;
 use text::ReadReply;
 
 // The reply to a text, and its number of frames where it is read.
-#[derive(Drop)]
+#[derive(Clone, Copy)]
 pub struct TextJudged {
     pub reply: Reply,
     pub frames: u32,

@@ -1,4 +1,7 @@
 // Which unit a frame commits, found while walking over a recording that has been judged reducible.
+
+#![tactic(auto)]
+
 ghost use Rattle.std.specs.Prelude.{◌≡◌, ◌<◌};
 ghost use Rattle.frame.specs.Frame.{InRange, ObjectInRange};
 ghost use Rattle.soundness.specs.Soundness.{nest};

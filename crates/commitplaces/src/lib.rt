@@ -1,4 +1,7 @@
 // Where each unit of a recording commits, by the place where it starts.
+
+#![tactic(auto)]
+
 ghost use Rattle.std.specs.Prelude.{◌≡◌, ◌<◌, ◌≤◌, length};
 ghost use Rattle.frame.specs.Limits.{most_frames};
 ghost use Rattle.commitplaces.specs.CommitPlaces.{noted, commits_of, commit_places};

@@ -1,9 +1,12 @@
 // Digits read and written: the value of each digit, the word of a line; the digits of a value, the line of a word.
+
+#![tactic(auto)]
+
 ghost use Rattle.std.specs.Prelude.{◌≡◌, ◌+◌, ◌*◌, ◌≤◌, ◌<◌, length, take, drop};
 ghost use Rattle.digits.specs.Digits.{Values, value_of, letter_of, digit_of, others, values_of, joined, DigitValues, digits_value, line_of, digits_of_sum, byte_of, digits, pasted, word_line, too_wide};
 
 // The word of a line, or that the line is not eight digits and an LF.
-#[derive(Drop)]
+#[derive(Clone, Copy)]
 pub enum Line {
     Word(u32),
     Malformed,

@@ -1,4 +1,7 @@
 // How far the frames of a unit move.
+
+#![tactic(auto)]
+
 ghost use Rattle.std.specs.Prelude.{◌≡◌, ◌+◌, ◌≤◌, ◌<◌, length};
 ghost use Rattle.frame.specs.Limits.{most_frames};
 ghost use Rattle.soundness.specs.Soundness.{check_reply};

@@ -1,4 +1,7 @@
 // Whether two recordings are equal up to exchanges of independent neighbours: the frames of each thread are matched in their order.
+
+#![tactic(auto)]
+
 ghost use Rattle.std.specs.Prelude.{◌≡◌};
 ghost use Rattle.soundness.specs.Soundness.{check_reply};
 ghost use Rattle.equal.specs.Equal.{sound, equal_words, yes_or_no, equal_reply};
@@ -6,13 +9,13 @@ ghost use Rattle.equal.specs.Equal.{sound, equal_words, yes_or_no, equal_reply};
 use frame::{Decoded, LOCKS, Refused, THREADS, VARIABLES};
 use soundness::CheckReply;
 
-#[derive(Drop)]
+#[derive(Clone, Copy)]
 pub enum Side {
     Left,
     Right,
 }
 
-#[derive(Drop)]
+#[derive(Clone, Copy)]
 pub enum EqualReply {
     Equal,
     Different,

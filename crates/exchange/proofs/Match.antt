@@ -94,6 +94,7 @@ module _ {A : Type 0} (thread : A → ℕ) (at : ℕ → A) where
     unpull : (i : A → A → Bool) → ((g : A) → i w g ≡ true → thread g ≡ thread w → ⊥) → (m k : ℕ) → k + m ≡ n → k ≤ p → (r : List A)
         → Pulled i w (rest next m k) r → Unpulled i m k r
     unfolding rest
+    unpull i irr zero k e a r x = elim x [ ]
     unpull i irr (suc m) k e a r x = go (eqb k p) refl (leb (next (thread (at k))) k) refl r x (λ c. unpull i irr m (suc k) (omega arith) c)
       where
         more : (k ≡ p → ⊥) → (b : Bool) → leb (next (thread (at k))) k ≡ b → (s : List A) → Unpulled i m (suc k) s → (next (thread (at k)) ≤ k → i w (at k) ≡ true)

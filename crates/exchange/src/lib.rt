@@ -1,1 +1,3 @@
 // Independence and exchanges: definitions and their laws, and no code.
+
+#![tactic(auto)]

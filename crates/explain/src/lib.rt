@@ -1,4 +1,7 @@
 // Answers in words, written into a lent buffer from a place on, as far as there is room. Each function replies the place behind what it wrote.
+
+#![tactic(auto)]
+
 ghost use Rattle.std.specs.Prelude.{◌≡◌, length};
 ghost use Rattle.output.specs.Output.{behind, written};
 ghost use Rattle.explain.specs.Explain.{explanation};

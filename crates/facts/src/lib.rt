@@ -1,4 +1,7 @@
 // What is known of a place of a recording, and of a violation, for sentences to speak of.
+
+#![tactic(auto)]
+
 ghost use Rattle.std.specs.Prelude.{◌≡◌, get_or};
 ghost use Rattle.frame.specs.Frame.{decode_word};
 ghost use Rattle.facts.specs.Facts.{place_of, thread_in, place_facts, violation_facts};

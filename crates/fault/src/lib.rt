@@ -1,11 +1,14 @@
 // The first thing that is wrong with a line that is refused by 1, and how many digits stand before it.
+
+#![tactic(auto)]
+
 ghost use Rattle.std.specs.Prelude.{◌≡◌};
 ghost use Rattle.fault.specs.Fault.{is_digit, is_lower, leading, marked, byte_fault, wrong_at, fault_of};
 
 // The first thing that is wrong with a line: a byte-order mark, a blank line, an LF or the end of the file before eight digits, the end of the
 // file before the LF, a CR, a blank or a tab, a digit or another byte in the place of the LF, a lower-case letter or another byte in the place of
 // a digit.
-#[derive(Drop)]
+#[derive(Clone, Copy)]
 pub enum Fault {
     Mark,
     BlankLine,

@@ -1,4 +1,7 @@
 // Verdict lines by their fields: a kept line read, and fields written as a line.
+
+#![tactic(auto)]
+
 ghost use Rattle.std.specs.Prelude.{◌≡◌, ◌<◌};
 ghost use Rattle.digits.specs.Digits.{too_wide};
 ghost use Rattle.line.specs.Line.{kind_width, place_width, thread_width, field_mark};
@@ -12,20 +15,20 @@ use line::{
 };
 
 // The fields of a line, or why it is none.
-#[derive(Drop)]
+#[derive(Clone, Copy)]
 pub enum FieldsReply {
     Read(Fields),
     Refused(Refused),
 }
 
-#[derive(Drop)]
+#[derive(Clone, Copy)]
 pub enum LineReply {
     Written,
     Refused(Refused),
 }
 
 // The line of some fields. Where they are refused its bytes are zeros.
-#[derive(Drop)]
+#[derive(Clone, Copy)]
 pub struct LineWritten {
     pub reply: LineReply,
     pub line: [u8; LINE],

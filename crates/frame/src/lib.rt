@@ -1,5 +1,8 @@
 // Frames (the field's term is event): a 32-bit word taken apart into a thread and what it does, and put together again.
 // Also the refusals that every part of the library answers with.
+
+#![tactic(auto)]
+
 ghost use Rattle.std.specs.Prelude.{◌≡◌};
 ghost use Rattle.frame.specs.Frame.{decode_word, split_word, encode_frame, word_of, refusal_of};
 ghost use Rattle.frame.specs.Refusal.{refusal_number};
@@ -35,16 +38,16 @@ const THREAD_END: u32 = THREADS as u32;
 const THREAD_BYTE_END: u8 = THREADS as u8;
 
 // The three domains of numbers that a frame names.
-#[derive(Drop)]
+#[derive(Clone, Copy)]
 pub struct Thread(pub u8);
 
-#[derive(Drop)]
+#[derive(Clone, Copy)]
 pub struct Lock(pub u8);
 
-#[derive(Drop)]
+#[derive(Clone, Copy)]
 pub struct Variable(pub u16);
 
-#[derive(Drop)]
+#[derive(Clone, Copy)]
 pub enum Action {
     Acquire(Lock),
     Release(Lock),
@@ -54,14 +57,14 @@ pub enum Action {
     End,
 }
 
-#[derive(Drop)]
+#[derive(Clone, Copy)]
 pub struct Frame {
     pub thread: Thread,
     pub action: Action,
 }
 
 // Why something is refused. `refusal_number` of specs/ has the number of each.
-#[derive(Drop)]
+#[derive(Clone, Copy)]
 pub enum Refusal {
     Line,
     TooLong,
@@ -86,20 +89,20 @@ pub enum Refusal {
     MovesBuffer,
 }
 
-#[derive(Drop)]
+#[derive(Clone, Copy)]
 pub struct Refused {
     pub reason: Refusal,
     pub place: u32,
 }
 
-#[derive(Drop)]
+#[derive(Clone, Copy)]
 pub enum Decoded {
     Frame(Frame),
     Bad(Refusal),
 }
 
 // The three parts of a word: an operation 1 to 6, a thread, and an object that is below the number of variables.
-#[derive(Drop)]
+#[derive(Clone, Copy)]
 pub struct Parts {
     pub operation: u8,
     pub thread: Thread,
@@ -107,7 +110,7 @@ pub struct Parts {
 }
 
 // Bad where a part is outside its range. No frame is.
-#[derive(Drop)]
+#[derive(Clone, Copy)]
 pub enum Split {
     Parts(Parts),
     Bad,

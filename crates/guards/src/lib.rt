@@ -1,4 +1,7 @@
 // Guard lists: which lock guards which variable, read into a table of codes, one for each variable.
+
+#![tactic(auto)]
+
 ghost use Rattle.std.specs.Prelude.{◌≡◌};
 ghost use Rattle.guards.specs.Guards.{guard_of, guard_line, guards_read, guards_under};
 
@@ -17,14 +20,14 @@ const VARIABLE_END: u32 = VARIABLES as u32;
 const LOCK_END: u32 = LOCKS as u32;
 
 // How guards are given: declared by a guard list, or all inferred.
-#[derive(Drop)]
+#[derive(Clone, Copy)]
 pub enum Judgement {
     Declared,
     Inferred,
 }
 
 // What guards a variable.
-#[derive(Drop)]
+#[derive(Clone, Copy)]
 pub enum Guard {
     Locked(Lock),
     Unprotected,
@@ -32,14 +35,14 @@ pub enum Guard {
 }
 
 // What a guard line names, or why it is refused on its own.
-#[derive(Drop)]
+#[derive(Clone, Copy)]
 enum GuardLine {
     Names(Variable, Lock),
     Bad(Refusal),
 }
 
 // The number of lines of a guard list, or why it is refused.
-#[derive(Drop)]
+#[derive(Clone, Copy)]
 pub enum GuardsReply {
     Lines(u32),
     Refused(Refused),

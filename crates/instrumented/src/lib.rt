@@ -1,4 +1,7 @@
 // The instrumented rules for one operation of a thread, for guards that are declared, absent or inferred.
+
+#![tactic(auto)]
+
 ghost use Rattle.std.specs.Prelude.{◌≡◌, ◌+◌, ◌-◌, ◌^◌, ◌/◌, ◌%◌, ◌<◌, cond, true, false, get_or, eqb};
 ghost use Rattle.frame.specs.Limits.{thread_count, lock_count};
 ghost use Rattle.instrumented.specs.Rules.{fault_verdict, phase_at, committed, judging_of, judged, judge_operation};
@@ -9,7 +12,7 @@ use operation::Operation;
 use reply::Kind;
 
 // What is wrong with a frame: nothing, or a kind of violation, and the locks that it carries.
-#[derive(Drop)]
+#[derive(Clone, Copy)]
 pub enum Fault {
     None,
     Wrong(Kind, u64),

@@ -1,4 +1,7 @@
 // The judgement of one sound frame by the instrumented rules, for guards that are declared, absent or inferred.
+
+#![tactic(auto)]
+
 ghost use Rattle.std.specs.Prelude.{◌≡◌, ◌-◌, ◌<◌, cond, get_or, eqb};
 ghost use Rattle.frame.specs.Limits.{thread_count};
 ghost use Rattle.instrumented.specs.Rules.{violation, phase_of, judging_of, judged, judge_operation};

@@ -1,4 +1,7 @@
 // The reply that the fields of a verdict line tell.
+
+#![tactic(auto)]
+
 ghost use Rattle.std.specs.Prelude.{◌≡◌, ◌≤◌};
 ghost use Rattle.kept.specs.Kept.{refusal_by, kind_by, mark_of, violation_of, kept_reply};
 
@@ -7,7 +10,7 @@ use line::{Fields, LineMark};
 use reply::{Kind, Mark, Reply, Verdict, Violation};
 
 // A reply, or the number of a refusal that this check does not give.
-#[derive(Drop)]
+#[derive(Clone, Copy)]
 pub enum Kept {
     Reply(Reply),
     Other(u8),

@@ -1,4 +1,7 @@
 // The verdict line: the fields of a reply, written as hexadecimal digits and LF.
+
+#![tactic(auto)]
+
 ghost use Rattle.std.specs.Prelude.{◌≡◌, ◌++◌, ◌≤◌, length, drop};
 ghost use Rattle.line.specs.Line.{place_width, mark_field, line_mark, bare_fields, reply_fields, held_place, held_mark, held_fields, line_length, fields_line, verdict_line};
 
@@ -39,14 +42,14 @@ const PLACE_END: u64 = 1u64 << (4 * PLACE_WIDTH);
 pub const ABSENT: Place = (PLACE_END - 1) as Place;
 
 // A begin or a commit of a line.
-#[derive(Drop)]
+#[derive(Clone, Copy)]
 pub enum LineMark {
     At(Place),
     Absent,
 }
 
 // The fields of a verdict line.
-#[derive(Drop)]
+#[derive(Clone, Copy)]
 pub struct Fields {
     pub kind: u8,
     pub frame: Place,

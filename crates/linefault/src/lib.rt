@@ -1,5 +1,8 @@
 // What is wrong with a line that is refused by 1, in words: the first byte that is wrong, its column, and what to do. Written into a lent buffer,
 // as far as there is room; each function replies the place behind what it wrote.
+
+#![tactic(auto)]
+
 ghost use Rattle.std.specs.Prelude.{◌≡◌, ◌*◌, ◌≤◌, length, drop};
 ghost use Rattle.digits.specs.Digits.{digits};
 ghost use Rattle.output.specs.Output.{bytes, behind, written};

@@ -1,4 +1,7 @@
 // A verdict line in words, written into a lent buffer as far as there is room; the reply is the number of bytes written.
+
+#![tactic(auto)]
+
 ghost use Rattle.std.specs.Prelude.{◌≡◌, length};
 ghost use Rattle.frame.specs.Refusal.{refusal_number};
 ghost use Rattle.kept.specs.Kept.{kept_reply};

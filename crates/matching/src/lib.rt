@@ -1,4 +1,7 @@
 // The steps of the comparison of two recordings: where a thread's next frame stands, and noting that a frame is matched.
+
+#![tactic(auto)]
+
 ghost use Rattle.std.specs.Prelude.{◌≡◌, ◌≤◌, ◌<◌, max, ltb, length, get_or, set};
 ghost use Rattle.frame.specs.Frame.{ObjectInRange};
 ghost use Rattle.soundness.specs.Soundness.{check_reply};

@@ -1,4 +1,7 @@
 // How far each frame of a recording moves to its place in the serial order, by a judgement: all checks, then the displacements into a lent list.
+
+#![tactic(auto)]
+
 ghost use Rattle.std.specs.Prelude.{◌≡◌, length};
 ghost use Rattle.moves.specs.Moves.{moves_reply, moves_out, moves_under, moves_out_under};
 

@@ -1,4 +1,7 @@
 // The names of kinds and refusals, written into a lent buffer as far as there is room. The reply is the length of the name.
+
+#![tactic(auto)]
+
 ghost use Rattle.std.specs.Prelude.{◌≡◌, ◌≤◌, length};
 ghost use Rattle.output.specs.Output.{written};
 ghost use Rattle.names.specs.Names.{no_name, name_at, kind_place, refusal_place, kind_name, refusal_name};

@@ -1,4 +1,7 @@
 // An action as the rules see it, by the guard of the variable that it accesses.
+
+#![tactic(auto)]
+
 ghost use Rattle.std.specs.Prelude.{◌≡◌, ◌-◌, ◌<◌};
 ghost use Rattle.frame.specs.Limits.{variable_count};
 ghost use Rattle.frame.specs.Frame.{ObjectInRange};
@@ -10,7 +13,7 @@ use soundness::Level;
 
 // An action as the rules see it: an access is one under its guard, an unprotected one, or one whose guard is inferred; an inner acquire or
 // release is as an access under its lock.
-#[derive(Drop)]
+#[derive(Clone, Copy)]
 pub enum Operation {
     Acquire(Lock),
     Release(Lock),

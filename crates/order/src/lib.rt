@@ -1,4 +1,7 @@
 // The serial order of a recording by a judgement: all checks, then the order into a lent buffer.
+
+#![tactic(auto)]
+
 ghost use Rattle.std.specs.Prelude.{◌≡◌, not, length};
 ghost use Rattle.order.specs.Order.{reducible_reply, irreducible, list_refused, reply_by, order_reply, order_out, order_under, out_under};
 
@@ -7,7 +10,7 @@ use guards::{GuardsReply, Judgement};
 use reply::{Mark, Reply, Verdict};
 use soundness::CheckReply;
 
-#[derive(Drop)]
+#[derive(Clone, Copy)]
 pub enum OrderReply {
     Written(u32),
     Refused(Refused),

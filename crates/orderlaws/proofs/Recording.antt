@@ -149,10 +149,13 @@ module _ (guards : List ℕ) where
   unfolding commits_from
   pass_keys end = refl
   pass_keys (on {i = i} {s = s} {j = j} {w = w} {ws = ws} {f = f} {n = n} {k = k} d g a o rest) =
-      rw (d, a, g, add-one i)
-      (ap (λ (x : ℕ). x ∷ commits_from guards (suc i) (point n k) ws) first
+      let begun : commits_from guards i (point s j) (w ∷ ws) ≡ commit_in (phase_of (get_or s.depths (thread_of f) 0) (get_or j.begins (thread_of f) 0) (get_or j.commits (thread_of f) 0))
+          (commit_from guards f.thread i (point s j) (w ∷ ws)) ∷ commits_from guards (suc i) (point n k) ws = rw (d, a, g, add-one i) in
+      begun
+      ∙ (ap (λ (x : ℕ). x ∷ commits_from guards (suc i) (point n k) ws) first
       ∙ (ap (λ (x : List ℕ). key_of guards (view_of s j) i f (frames_of ws) ∷ x) (pass_keys rest)
-      ∙ ap (λ (x : Run). key_of guards (view_of s j) i f (frames_of ws) ∷ keys (keyed guards x (suc i) (frames_of ws))) o.run))
+      ∙ (ap (λ (x : Run). key_of guards (view_of s j) i f (frames_of ws) ∷ keys (keyed guards x (suc i) (frames_of ws))) o.run
+      ∙ sym (ap (λ (l : List Frame). keys (keyed guards (view_of s j) i l)) (frames_first w f ws d)))))
     where
       first : commit_in (phase_of (get_or s.depths (thread_of f) 0) (get_or j.begins (thread_of f) 0) (get_or j.commits (thread_of f) 0))
           (commit_from guards f.thread i (point s j) (w ∷ ws)) ≡ key_of guards (view_of s j) i f (frames_of ws)

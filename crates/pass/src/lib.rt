@@ -1,5 +1,8 @@
 // The judgement of a whole recording, in one pass: each frame is checked for soundness and judged; after a violation the rest is checked
 // for soundness alone, since a refusal anywhere wins over a verdict.
+
+#![tactic(auto)]
+
 ghost use Rattle.std.specs.Prelude.{◌≡◌, ◌≤◌, length};
 ghost use Rattle.frame.specs.Limits.{thread_count, most_frames};
 ghost use Rattle.reply.specs.Reply.{refused as refusedReply};

@@ -1,5 +1,8 @@
 // What sentences name: the recording or list spoken of, a line and its place, what a frame does. Written into a lent buffer from a place on, as far as
 // there is room; each function replies the place behind what it wrote.
+
+#![tactic(auto)]
+
 ghost use Rattle.std.specs.Prelude.{◌≡◌, ◌++◌, length};
 ghost use Rattle.output.specs.Output.{decimal, behind, written};
 ghost use Rattle.phrase.specs.Phrase.{source_text, line_text, action_text, decoded_text, variable_in};
@@ -8,7 +11,7 @@ use frame::{Action, Decoded, Variable};
 use output::{put_byte, put_decimal, put_text};
 
 // What is spoken of.
-#[derive(Drop)]
+#[derive(Clone, Copy)]
 pub enum Source {
     Recording,
     GuardList,

@@ -1,5 +1,8 @@
 // The check of a whole recording, quick on recordings that are sound. While frames pass, what a frame does chooses between numbers and not
 // between ways through the code, so that nothing is to be predicted; the first that does not pass is left to crate soundness, which refuses it.
+
+#![tactic(auto)]
+
 ghost use Rattle.std.specs.Prelude.{◌≡◌, eqb, not};
 ghost use Rattle.soundness.specs.Soundness.{state_of, check_reply};
 ghost use Rattle.quick.specs.Quick.{picked, object_end, held_end, owner_after, PassedBy, PassedTo};

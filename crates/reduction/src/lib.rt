@@ -1,1 +1,3 @@
 // Lipton's reduction on recordings: theorems, and no code.
+
+#![tactic(auto)]

@@ -1,4 +1,7 @@
 // A call's refusal in words, written into a lent buffer as far as there is room; the reply is the number of bytes written.
+
+#![tactic(auto)]
+
 ghost use Rattle.std.specs.Prelude.{◌≡◌, length};
 ghost use Rattle.output.specs.Output.{behind, written};
 ghost use Rattle.refusalreport.specs.RefusalReport.{source_named, numbered_text, refusal_report};

@@ -1,4 +1,7 @@
 // Refusals in words.
+
+#![tactic(auto)]
+
 ghost use Rattle.std.specs.Prelude.{◌≡◌, length};
 ghost use Rattle.frame.specs.Refusal.{refusal_number};
 ghost use Rattle.output.specs.Output.{bytes, behind, written};

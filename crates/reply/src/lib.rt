@@ -1,10 +1,13 @@
 // What a judgement answers: a refusal, or a verdict. Also a refusal as one number, for C programs.
+
+#![tactic(auto)]
+
 ghost use Rattle.std.specs.Prelude.{◌≡◌};
 ghost use Rattle.reply.specs.Reply.{kind_number, packed};
 
 use frame::{Refused, Thread};
 
-#[derive(Drop)]
+#[derive(Clone, Copy)]
 pub enum Kind {
     GuardNotHeld,
     UnprotectedAfterCommit,
@@ -13,13 +16,13 @@ pub enum Kind {
 }
 
 // A place in the recording, or none.
-#[derive(Drop)]
+#[derive(Clone, Copy)]
 pub enum Mark {
     At(u32),
     Absent,
 }
 
-#[derive(Drop)]
+#[derive(Clone, Copy)]
 pub struct Violation {
     pub kind: Kind,
     pub frame: u32,
@@ -29,13 +32,13 @@ pub struct Violation {
     pub locks: u64,
 }
 
-#[derive(Drop)]
+#[derive(Clone, Copy)]
 pub enum Verdict {
     Reducible,
     Violated(Violation),
 }
 
-#[derive(Drop)]
+#[derive(Clone, Copy)]
 pub enum Reply {
     Refused(Refused),
     Judged(Verdict),

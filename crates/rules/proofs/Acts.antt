@@ -33,7 +33,7 @@ acted t action.End s = state_of s.owners s.counts (set s.depths t (get_or s.dept
 owned : (o t : ℕ) → o ≡ t + 1 → eqb o 0 ≡ false
 owned o t e = ne_eqb o 0 (λ z. omega arith)
 
-pub acts_to : {s n : State} {t : ℕ} {a : Action} → Acts s t a n → n ≡ acted t a s
+pub acts_to : {s : State} {t : ℕ} {n : State} {a : Action} → Acts s t a n → n ≡ acted t a s
 acts_to act_read = refl
 acts_to act_write = refl
 acts_to (act_acquire e) = rw (eq-eqb _ _ e)

@@ -1,5 +1,8 @@
 // Sentences with slots in them, written into a lent buffer from a place on, as far as there is room. Each function replies the place behind
 // what it wrote.
+
+#![tactic(auto)]
+
 ghost use Rattle.std.specs.Prelude.{◌≡◌, length};
 ghost use Rattle.output.specs.Output.{behind, written};
 ghost use Rattle.sentence.specs.Sentence.{piece, known, filled};
@@ -9,7 +12,7 @@ use output::{put_byte, put_decimal, put_locks};
 use phrase::Source;
 
 // What a sentence can speak of: a place, the frame there, a thread, the block's begin and commit, the frame that committed, and locks.
-#[derive(Drop)]
+#[derive(Clone, Copy)]
 pub struct Facts {
     pub source: Source,
     pub place: u32,

@@ -1,4 +1,7 @@
 // The units of a recording, each with its frames.
+
+#![tactic(auto)]
+
 ghost use Rattle.std.specs.Prelude.{◌≡◌, ◌++◌, ◌+◌, ◌≤◌, ◌<◌, length, take, drop};
 ghost use Rattle.soundness.specs.Soundness.{check_reply};
 ghost use Rattle.soundness.specs.declared.CheckReply.TheVariants as check;

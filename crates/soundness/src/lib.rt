@@ -1,4 +1,7 @@
 // Whether a recording (the field's term is trace) is sound: each frame decodes, and locks and blocks are taken and left in turn.
+
+#![tactic(auto)]
+
 ghost use Rattle.std.specs.Prelude.{◌≡◌, ◌≤◌, length, drop};
 ghost use Rattle.frame.specs.Frame.{InRange};
 ghost use Rattle.soundness.specs.Soundness.{step_frame, stepped, state_of, outcome_refusal, checked, check_from, check_reply};
@@ -7,21 +10,21 @@ use frame::{
     Action, DEEPEST, Decoded, Frame, LOCKS, MOST, MOST_HELD, MOST_PLACE, Refusal, Refused, THREADS,
 };
 
-#[derive(Drop)]
+#[derive(Clone, Copy)]
 pub enum CheckReply {
     Sound,
     Refused(Refused),
 }
 
 // Whether a frame is an inner acquire or release (the field's term is re-entrant), of a lock that its thread holds before and after.
-#[derive(Drop)]
+#[derive(Clone, Copy)]
 pub enum Level {
     Outer,
     Inner,
 }
 
 // What a frame does to the locks and blocks.
-#[derive(Drop)]
+#[derive(Clone, Copy)]
 pub enum Outcome {
     Next(Level),
     Bad(Refusal),

@@ -1,4 +1,7 @@
 // The text of a recording: its lines, and the words that they give.
+
+#![tactic(auto)]
+
 ghost use Rattle.std.specs.Prelude.{◌≡◌, ◌++◌, ◌+◌, ◌*◌, ◌≤◌, ◌<◌, length, drop};
 ghost use Rattle.frame.specs.Limits.{most_frames};
 ghost use Rattle.text.specs.Text.{word_at, scan_from, scanned, reached, words_to, read_reply, read_words};
@@ -11,7 +14,7 @@ use frame::{MOST, MOST_PLACE, Refusal, Refused};
 pub const MOST_BYTES: usize = 9 * MOST;
 
 // The number of lines of a text, or why it is refused.
-#[derive(Drop)]
+#[derive(Clone, Copy)]
 pub enum ReadReply {
     Lines(u32),
     Refused(Refused),

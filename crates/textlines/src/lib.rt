@@ -1,4 +1,7 @@
 // The lines of a text, by number: a table of texts is one text, with a line for each.
+
+#![tactic(auto)]
+
 ghost use Rattle.std.specs.Prelude.{◌≡◌, ◌+◌, ◌≤◌, length, drop};
 ghost use Rattle.textlines.specs.Lines.{line_length, nth_line};
 

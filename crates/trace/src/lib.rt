@@ -1,5 +1,8 @@
 // Functions that C programs call: the planner's entry, texts, guard lists and verdicts. Equality and the serial order are in crate traceorder:
 // apart from these, so that the judging pass is compiled into one loop here.
+
+#![tactic(auto)]
+
 ghost use Rattle.std.specs.Prelude.{◌≡◌, length};
 ghost use Rattle.text.specs.Text.{read_reply, read_words};
 ghost use Rattle.guards.specs.Guards.{guards_read};
@@ -17,8 +20,7 @@ const LINE: usize = line::LINE;
 const SHORT: u8 = 145;
 
 // The planner's entry: recording text in, verdict line out, guards inferred.
-#[unsafe(no_mangle)]
-pub extern "C" fn trace_check(text: &[u8], line: &mut [u8]) -> u8
+pub fn trace_check(text: &[u8], line: &mut [u8]) -> u8
     ensures kind { result ≡ kind_answer (text_judged text.now).reply (length line.old) }
     ensures contents { line.new ≡ line_after (text_judged text.now).reply (text_judged text.now).frames line.old }
 {
@@ -31,8 +33,7 @@ pub extern "C" fn trace_check(text: &[u8], line: &mut [u8]) -> u8
 }
 
 // A recording's text read into words.
-#[unsafe(no_mangle)]
-pub extern "C" fn trace_read(text: &[u8], words: &mut [u32]) -> u64
+pub fn trace_read(text: &[u8], words: &mut [u32]) -> u64
     ensures reply { result ≡ read_answer (read_reply text.now (length words.old)) }
     ensures contents { words.new ≡ read_words text.now words.old }
 {
@@ -44,8 +45,7 @@ pub extern "C" fn trace_read(text: &[u8], words: &mut [u32]) -> u64
 }
 
 // A guard list checked.
-#[unsafe(no_mangle)]
-pub extern "C" fn trace_guards(list: &[u8]) -> u64
+pub fn trace_guards(list: &[u8]) -> u64
     ensures { result ≡ guards_answer (guards_read list.now).reply }
 {
     let g = guards::read_guards(list);
@@ -57,8 +57,7 @@ pub extern "C" fn trace_guards(list: &[u8]) -> u64
 }
 
 // The verdict with declared guards.
-#[unsafe(no_mangle)]
-pub extern "C" fn trace_declared(list: &[u8], words: &[u32], line: &mut [u8]) -> u8
+pub fn trace_declared(list: &[u8], words: &[u32], line: &mut [u8]) -> u8
     ensures kind { result ≡ kind_answer (verdict_under Declared list.now words.now) (length line.old) }
     ensures contents { line.new ≡ line_after (verdict_under Declared list.now words.now) (length words.now) line.old }
 {
@@ -70,8 +69,7 @@ pub extern "C" fn trace_declared(list: &[u8], words: &[u32], line: &mut [u8]) ->
 }
 
 // The verdict with inferred guards, and the candidate sets.
-#[unsafe(no_mangle)]
-pub extern "C" fn trace_inferred(words: &[u32], sets: &mut [u64], line: &mut [u8]) -> u8
+pub fn trace_inferred(words: &[u32], sets: &mut [u64], line: &mut [u8]) -> u8
     ensures kind { result ≡ kind_answer (inferred_reply words.now (length sets.old)) (length line.old) }
     ensures sets { sets.new ≡ sets_after words.now sets.old (length line.old) }
     ensures contents { line.new ≡ line_after (inferred_reply words.now (length sets.old)) (length words.now) line.old }

@@ -1,4 +1,7 @@
 // Functions that C programs call: equality of recordings, the serial order, displacements, and commits.
+
+#![tactic(auto)]
+
 ghost use Rattle.std.specs.Prelude.{◌≡◌, [], length};
 ghost use Rattle.equal.specs.Equal.{equal_reply};
 ghost use Rattle.guards.specs.declared.Judgement.TheVariants.{Declared, Inferred};
@@ -23,8 +26,7 @@ fn pack_side(side: Side, r: Refused) -> u64
 }
 
 // Whether two recordings are equal.
-#[unsafe(no_mangle)]
-pub extern "C" fn trace_equal(left: &[u32], right: &[u32]) -> u64
+pub fn trace_equal(left: &[u32], right: &[u32]) -> u64
     ensures { result ≡ equal_answer (equal_reply left.now right.now) }
 {
     let q = equal::equal(left, right);
@@ -45,8 +47,7 @@ fn pack_order(q: OrderReply) -> u64
 }
 
 // The serial order with declared guards.
-#[unsafe(no_mangle)]
-pub extern "C" fn trace_serial_declared(list: &[u8], words: &[u32], out: &mut [u32]) -> u64
+pub fn trace_serial_declared(list: &[u8], words: &[u32], out: &mut [u32]) -> u64
     ensures reply { result ≡ order_answer (order_under Declared list.now words.now (length out.old)) }
     ensures contents { out.new ≡ out_under Declared list.now words.now out.old }
 {
@@ -55,8 +56,7 @@ pub extern "C" fn trace_serial_declared(list: &[u8], words: &[u32], out: &mut [u
 }
 
 // The serial order with inferred guards.
-#[unsafe(no_mangle)]
-pub extern "C" fn trace_serial_inferred(words: &[u32], out: &mut [u32]) -> u64
+pub fn trace_serial_inferred(words: &[u32], out: &mut [u32]) -> u64
     ensures reply { result ≡ order_answer (order_under Inferred [] words.now (length out.old)) }
     ensures contents { out.new ≡ out_under Inferred [] words.now out.old }
 {
@@ -65,8 +65,7 @@ pub extern "C" fn trace_serial_inferred(words: &[u32], out: &mut [u32]) -> u64
 }
 
 // How far each frame moves, with declared guards.
-#[unsafe(no_mangle)]
-pub extern "C" fn trace_moves_declared(list: &[u8], words: &[u32], moves: &mut [i32]) -> u64
+pub fn trace_moves_declared(list: &[u8], words: &[u32], moves: &mut [i32]) -> u64
     ensures reply { result ≡ order_answer (moves_under Declared list.now words.now (length moves.old)) }
     ensures contents { moves.new ≡ moves_out_under Declared list.now words.now moves.old }
 {
@@ -75,8 +74,7 @@ pub extern "C" fn trace_moves_declared(list: &[u8], words: &[u32], moves: &mut [
 }
 
 // How far each frame moves, with inferred guards.
-#[unsafe(no_mangle)]
-pub extern "C" fn trace_moves_inferred(words: &[u32], moves: &mut [i32]) -> u64
+pub fn trace_moves_inferred(words: &[u32], moves: &mut [i32]) -> u64
     ensures reply { result ≡ order_answer (moves_under Inferred [] words.now (length moves.old)) }
     ensures contents { moves.new ≡ moves_out_under Inferred [] words.now moves.old }
 {
@@ -85,8 +83,7 @@ pub extern "C" fn trace_moves_inferred(words: &[u32], moves: &mut [i32]) -> u64
 }
 
 // Where each unit commits, with declared guards.
-#[unsafe(no_mangle)]
-pub extern "C" fn trace_commits_declared(list: &[u8], words: &[u32], commits: &mut [u32]) -> u64
+pub fn trace_commits_declared(list: &[u8], words: &[u32], commits: &mut [u32]) -> u64
     ensures reply { result ≡ order_answer (commits_under Declared list.now words.now) }
     ensures contents { commits.new ≡ commits_out_under Declared list.now words.now commits.old }
 {
@@ -95,8 +92,7 @@ pub extern "C" fn trace_commits_declared(list: &[u8], words: &[u32], commits: &m
 }
 
 // Where each unit commits, with inferred guards.
-#[unsafe(no_mangle)]
-pub extern "C" fn trace_commits_inferred(words: &[u32], commits: &mut [u32]) -> u64
+pub fn trace_commits_inferred(words: &[u32], commits: &mut [u32]) -> u64
     ensures reply { result ≡ order_answer (commits_under Inferred [] words.now) }
     ensures contents { commits.new ≡ commits_out_under Inferred [] words.now commits.old }
 {

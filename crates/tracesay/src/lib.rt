@@ -1,5 +1,8 @@
 // Functions that C programs call: answers, refusals and verdict lines in words, and the names of kinds and refusals. Each writes into a lent buffer
 // as far as there is room, and replies the number of bytes of the whole.
+
+#![tactic(auto)]
+
 ghost use Rattle.std.specs.Prelude.{◌≡◌, [], length};
 ghost use Rattle.output.specs.Output.{written};
 ghost use Rattle.names.specs.Names.{kind_name, refusal_name};
@@ -12,8 +15,7 @@ use output::put_text;
 const TEXT: usize = 4096;
 
 // The answer that a verdict line tells, with the words of its recording.
-#[unsafe(no_mangle)]
-pub extern "C" fn trace_say_verdict(line: &[u8], words: &[u32], out: &mut [u8]) -> usize
+pub fn trace_say_verdict(line: &[u8], words: &[u32], out: &mut [u8]) -> usize
     ensures length { result ≡ length (line_report line.now words.now) }
     ensures contents { out.new ≡ written out.old 0 (line_report line.now words.now) }
 {
@@ -24,8 +26,7 @@ pub extern "C" fn trace_say_verdict(line: &[u8], words: &[u32], out: &mut [u8]) 
 }
 
 // The refusal that a call replied.
-#[unsafe(no_mangle)]
-pub extern "C" fn trace_say_refusal(
+pub fn trace_say_refusal(
     reply: u64,
     source: u32,
     text: &[u8],
@@ -42,8 +43,7 @@ pub extern "C" fn trace_say_refusal(
 }
 
 // A kept verdict line.
-#[unsafe(no_mangle)]
-pub extern "C" fn trace_say_line(line: &[u8], out: &mut [u8]) -> usize
+pub fn trace_say_line(line: &[u8], out: &mut [u8]) -> usize
     ensures length { result ≡ length (line_report line.now []) }
     ensures contents { out.new ≡ written out.old 0 (line_report line.now []) }
 {
@@ -55,8 +55,7 @@ pub extern "C" fn trace_say_line(line: &[u8], out: &mut [u8]) -> usize
 }
 
 // The name of a kind.
-#[unsafe(no_mangle)]
-pub extern "C" fn trace_say_kind(kind: u8, out: &mut [u8]) -> usize
+pub fn trace_say_kind(kind: u8, out: &mut [u8]) -> usize
     ensures length { result ≡ length (kind_name kind) }
     ensures contents { out.new ≡ written out.old 0 (kind_name kind) }
 {
@@ -64,8 +63,7 @@ pub extern "C" fn trace_say_kind(kind: u8, out: &mut [u8]) -> usize
 }
 
 // The name of a refusal.
-#[unsafe(no_mangle)]
-pub extern "C" fn trace_say_refusal_name(number: u8, out: &mut [u8]) -> usize
+pub fn trace_say_refusal_name(number: u8, out: &mut [u8]) -> usize
     ensures length { result ≡ length (refusal_name number) }
     ensures contents { out.new ≡ written out.old 0 (refusal_name number) }
 {

@@ -1,4 +1,7 @@
 // Functions that C programs call: recordings written as text, verdict lines read and written by their fields.
+
+#![tactic(auto)]
+
 ghost use Rattle.std.specs.Prelude.{◌≡◌, length};
 ghost use Rattle.writer.specs.Writer.{write_reply, text_after};
 ghost use Rattle.fields.specs.Fields.{line_fields};
@@ -13,8 +16,7 @@ use writer::WriteReply;
 const LINE_PLACE: u32 = LINE as u32;
 
 // A sound recording as text, from a place on.
-#[unsafe(no_mangle)]
-pub extern "C" fn trace_write(words: &[u32], text: &mut [u8], place: usize) -> u64
+pub fn trace_write(words: &[u32], text: &mut [u8], place: usize) -> u64
     ensures reply { result ≡ write_answer (write_reply words.now (length text.old) place) }
     ensures contents { text.new ≡ text_after (write_reply words.now (length text.old) place) words.now text.old place }
 {
@@ -26,8 +28,7 @@ pub extern "C" fn trace_write(words: &[u32], text: &mut [u8], place: usize) -> u
 }
 
 // The fields of a verdict line.
-#[unsafe(no_mangle)]
-pub extern "C" fn trace_line_read(
+pub fn trace_line_read(
     line: &[u8],
     kind: &mut u8,
     frame: &mut u16,
@@ -62,8 +63,7 @@ pub extern "C" fn trace_line_read(
 }
 
 // A verdict line of these fields, at the front of a buffer.
-#[unsafe(no_mangle)]
-pub extern "C" fn trace_line_write(
+pub fn trace_line_write(
     kind: u8,
     frame: u16,
     thread: u8,

@@ -1,4 +1,7 @@
 // One turn of a pass over a recording: a frame is checked for soundness and judged.
+
+#![tactic(auto)]
+
 ghost use Rattle.std.specs.Prelude.{◌≡◌, ◌<◌};
 ghost use Rattle.frame.specs.Frame.{InRange};
 ghost use Rattle.soundness.specs.Soundness.{state_of};
@@ -11,7 +14,7 @@ use reply::{Verdict, Violation};
 use soundness::Outcome;
 
 // What a frame does: it leads on, is refused, or goes wrong.
-#[derive(Drop)]
+#[derive(Clone, Copy)]
 pub enum Turn {
     Next,
     Refused(Refusal),

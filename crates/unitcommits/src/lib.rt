@@ -1,4 +1,7 @@
 // Where each unit of a recording commits, by a judgement: all checks, then the commits into a lent table.
+
+#![tactic(auto)]
+
 ghost use Rattle.std.specs.Prelude.{◌≡◌};
 ghost use Rattle.unitcommits.specs.UnitCommits.{checked_reply, checked_out, commits_under, commits_out_under};
 

@@ -1,4 +1,7 @@
 // The verdicts of a recording: with declared guards, and with inferred ones.
+
+#![tactic(auto)]
+
 ghost use Rattle.std.specs.Prelude.{◌≡◌, ◌++◌, ◌≤◌, length, drop};
 ghost use Rattle.frame.specs.Limits.{variable_count};
 ghost use Rattle.verdict.specs.Verdict.{guards_refused, verdict_under, inferred_reply, inferred_sets};

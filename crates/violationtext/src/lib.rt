@@ -1,4 +1,7 @@
 // A violation in words: what happened, the thread's block, the frame, why it goes wrong, and what to do.
+
+#![tactic(auto)]
+
 ghost use Rattle.std.specs.Prelude.{◌≡◌, cond, ◌+◌, ◌-◌, length};
 ghost use Rattle.reply.specs.Reply.{kind_number};
 ghost use Rattle.output.specs.Output.{bytes, behind, written};

@@ -1,4 +1,7 @@
 // The serial order of a recording, unit by unit: walks that write each unit where it commits, its words or its displacements.
+
+#![tactic(auto)]
+
 ghost use Rattle.std.specs.Prelude.{◌≡◌, ◌++◌, ◌≤◌, length, drop};
 ghost use Rattle.soundness.specs.Soundness.{check_reply};
 ghost use Rattle.frame.specs.Limits.{most_frames};

@@ -1,4 +1,7 @@
 // A recording written as text: a line for each frame, into a lent text from a place on.
+
+#![tactic(auto)]
+
 ghost use Rattle.std.specs.Prelude.{◌≡◌, ◌+◌, ◌*◌, ◌≤◌, length};
 ghost use Rattle.digits.specs.Digits.{word_line, lines_of, pasted};
 ghost use Rattle.frame.specs.Limits.{most_frames};
@@ -8,7 +11,7 @@ use frame::{Refusal, Refused};
 use soundness::CheckReply;
 
 // The number of bytes written, or why nothing is.
-#[derive(Drop)]
+#[derive(Clone, Copy)]
 pub enum WriteReply {
     Written(u32),
     Refused(Refused),

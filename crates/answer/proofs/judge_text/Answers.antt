@@ -1,0 +1,32 @@
+use mathlib.Core.Path.{sym, ◌∙◌}
+use lib.ListN.{replicate}
+use lib.Seq.{length-take-le}
+use Rattle.frame.specs.Limits.{most_frames}
+use Rattle.text.proofs.Laws.{after_into}
+use Rattle.answer.specs.Answer.{text_judged}
+use borrow.Author.Rules.{rules}
+use Rattle.answer.proofs.judge_text.Goals as goal
+
+pub slice_bounds-words-end : goal.slice_bounds-words-end
+slice_bounds-words-end c =
+    let r = c.read_into-q in
+    let w = after_into c.args.text.now (replicate most_frames 0) c.in-Lines.n r.new.words r.result c.in-Lines.is r.ensures.contents in
+    w.fits
+
+pub slice_bounds-judge-end-in-Lines : goal.slice_bounds-judge-end-in-Lines
+slice_bounds-judge-end-in-Lines c =
+    let r = c.read_into-q in
+    let w = after_into c.args.text.now (replicate most_frames 0) c.in-Lines.n r.new.words r.result c.in-Lines.is r.ensures.contents in
+    sym (length-take-le _ _ w.fits)
+
+pub returns-in-Lines : goal.returns-in-Lines
+unfolding text_judged
+returns-in-Lines c =
+    let r = c.read_into-q in
+    let w = after_into c.args.text.now (replicate most_frames 0) c.in-Lines.n r.new.words r.result c.in-Lines.is r.ensures.contents in
+    let e = rw w.words at c.judge-r.ensures in
+    rw (sym r.ensures.reply ∙ c.in-Lines.is, e)
+
+pub returns-in-Refused : goal.returns-in-Refused
+unfolding text_judged
+returns-in-Refused c = rw (sym c.read_into-q.ensures.reply ∙ c.in-Refused.is)

@@ -1,0 +1,5 @@
+use borrow.Author.Rules.{rules}
+use Rattle.commit.proofs.is_settled.Goals as goal
+
+pub returns : goal.returns
+returns c = rw c.if-commits.false

@@ -1,0 +1,20 @@
+-- The replies of the two checks decide, and then the comparison.
+use mathlib.Core.Path.{sym, ◌∙◌}
+use borrow.Author.Rules.{rules}
+use Rattle.equal.proofs.equal.Goals as goal
+
+pub returns-in-Refused : goal.returns-in-Refused
+returns-in-Refused c = rw (sym c.check-l.ensures ∙ c.in-Refused.is)
+
+pub returns-in-Refused-r : goal.returns-in-Refused-r
+returns-in-Refused-r c = rw (sym c.check-l.ensures ∙ c.in_default.is, sym c.check-r.ensures ∙ c.in-Refused-r.is)
+
+pub same-requires : goal.same-requires
+same-requires c =
+    record {
+      fact_1 = sym c.check-l.ensures ∙ c.in_default.is;
+      fact_2 = sym c.check-r.ensures ∙ c.in_default-r.is;
+    }
+
+pub returns : goal.returns
+returns c = rw (sym c.check-l.ensures ∙ c.in_default.is, sym c.check-r.ensures ∙ c.in_default-r.is) c.same.ensures

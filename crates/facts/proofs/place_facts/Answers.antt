@@ -1,0 +1,6 @@
+-- The frame is that at the place.
+use borrow.Author.Rules.{rules}
+use Rattle.facts.proofs.place_facts.Goals as goal
+
+pub returns : goal.returns
+returns c = rw (c.thread_of.ensures, c.frame_at-d.ensures)

@@ -1,0 +1,15 @@
+-- Invariant: the first c bytes are digits.
+use Prim.Native.Nat.{◌+◌, ◌-◌, ◌≤◌}
+use mathlib.Core.Path.{◌≡◌, sym, ◌∙◌}
+use native.Mathlib.Omega.{arith}
+use borrow.Author.Rules.{rules}
+use lib.ListN.{drop}
+use Rattle.fault.specs.Fault.{leading}
+use Rattle.fault.proofs.Laws.{leading_end, leading_next, leading_stops, leading_all}
+use Rattle.fault.proofs.leading_digits.Given as goal
+
+abbrev pub invariant-loop-c : goal.invariant-loop-c
+invariant-loop-c l = (l.c ≤ 8) × (leading 8 l.line ≡ l.c + leading (8 - l.c) (drop l.c l.line))
+
+abbrev pub decreases-loop-c : goal.decreases-loop-c
+decreases-loop-c l = 8 - l.c

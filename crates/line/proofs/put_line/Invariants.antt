@@ -1,0 +1,17 @@
+-- Invariant: the first i bytes are the line's, and the rest is as it was.
+use Prim.Native.Nat.{ℕ, ◌-◌, ◌≤◌}
+use mathlib.Core.Path.{◌≡◌, refl, ap, ◌∙◌}
+use mathlib.Core.List.{List, ◌++◌}
+use native.Mathlib.Omega.{arith}
+use borrow.Author.Rules.{rules}
+use lib.ListN.{length, length-set, take, drop}
+use lib.Seq.{take_all}
+use Rattle.laws.proofs.Lists.{copied_next}
+use Rattle.line.specs.Line.{line_length}
+use Rattle.line.proofs.put_line.Given as goal
+
+abbrev pub invariant-loop-i : goal.invariant-loop-i
+invariant-loop-i l = (l.i ≤ line_length) × (length l.out ≡ length l.initial.out) × (l.out ≡ take l.i l.l ++ drop l.i l.initial.out)
+
+abbrev pub decreases-loop-i : goal.decreases-loop-i
+decreases-loop-i l = line_length - l.i

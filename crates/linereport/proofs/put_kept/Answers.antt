@@ -1,0 +1,18 @@
+-- The two cases of a kept line.
+use mathlib.Core.Path.{sym, ◌∙◌}
+use borrow.Author.Rules.{rules}
+use Rattle.linereport.proofs.put_kept.Goals as goal
+
+pub returns-in-Reply : goal.returns-in-Reply
+returns-in-Reply c =
+    record {
+      place = rw (sym c.reply_of-k.ensures ∙ c.in-Reply.is, ← c.source_of-s.ensures) c.explain.ensures.place;
+      contents = rw (sym c.reply_of-k.ensures ∙ c.in-Reply.is, ← c.source_of-s.ensures) c.explain.ensures.contents;
+    }
+
+pub returns-in-Other : goal.returns-in-Other
+returns-in-Other c =
+    record {
+      place = rw (sym c.reply_of-k.ensures ∙ c.in-Other.is) c.put_other.ensures.place;
+      contents = rw (sym c.reply_of-k.ensures ∙ c.in-Other.is) c.put_other.ensures.contents;
+    }

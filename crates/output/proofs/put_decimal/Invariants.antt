@@ -1,0 +1,19 @@
+-- Invariant: the digits of v that are left, and behind them those stored, are the digits of n.
+use Prim.Native.Nat.{◌+◌, ◌-◌, ◌≤◌}
+use mathlib.Core.Path.{◌≡◌, refl, sym, ◌∙◌}
+use mathlib.Core.List.{[], ◌++◌, append-nil}
+use native.Mathlib.Omega.{arith}
+use borrow.Author.Rules.{rules}
+use borrow.Author.Tests.{eq-eqb, ne_eqb}
+use lib.ListN.{length, take, drop, length-set, length-drop}
+use lib.Seq.{take_all}
+use mathlib.Core.Logic.{⊎_elim}
+use Rattle.output.specs.Output.{decimal_digits, decimal}
+use Rattle.output.proofs.Laws.{digit_stored, digits_none, digits_full}
+use Rattle.output.proofs.put_decimal.Given as goal
+
+abbrev pub invariant-loop-v : goal.invariant-loop-v
+invariant-loop-v l = (l.k ≤ 20) × (length l.digits ≡ 20) × (decimal_digits l.k l.v ++ drop l.k l.digits ≡ decimal_digits 20 l.n)
+
+abbrev pub decreases-loop-v : goal.decreases-loop-v
+decreases-loop-v l = l.v

@@ -1,0 +1,18 @@
+-- Invariant: writing the locks from n on behind what is written writes the whole list.
+use Prim.Native.Nat.{ℕ, suc, ◌+◌, ◌-◌, ◌≤◌}
+use mathlib.Core.Path.{◌≡◌, refl, ◌∙◌}
+use mathlib.Core.List.{List}
+use native.Mathlib.Omega.{arith}
+use native.Mathlib.Numerals.{add-one}
+use borrow.Author.Rules.{rules}
+use lib.ListN.{length}
+use Rattle.frame.specs.Limits.{lock_count}
+use Rattle.output.specs.Output.{listed}
+use Rattle.output.proofs.Laws.{Put, put_none, put_more}
+use Rattle.output.proofs.put_listed.Given as goal
+
+abbrev pub invariant-loop-n : goal.invariant-loop-n
+invariant-loop-n l = (l.n ≤ lock_count) × (length l.out ≡ length l.initial.out) × ((b : List ℕ) (q : ℕ) → Put l.out l.p (listed (lock_count - l.n) l.n l.v) b q → Put l.initial.out l.at (listed lock_count 0 l.s) b q)
+
+abbrev pub decreases-loop-n : goal.decreases-loop-n
+decreases-loop-n l = lock_count - l.n

@@ -1,0 +1,18 @@
+-- Invariant: filling in the rest of the sentence behind what is written fills in the whole.
+use Prim.Native.Nat.{ℕ, ◌+◌, ◌-◌, ◌≤◌}
+use mathlib.Core.Path.{◌≡◌, refl, ◌∙◌}
+use mathlib.Core.List.{List, [], ◌∷◌}
+use native.Mathlib.Omega.{arith}
+use native.Mathlib.Numerals.{add-one}
+use borrow.Author.Rules.{rules}
+use lib.ListN.{length, drop, get_or, drop_of_length-le}
+use lib.Seq.{drop-cons}
+use Rattle.output.proofs.Laws.{Put, put_none, put_more}
+use Rattle.sentence.specs.Sentence.{filled}
+use Rattle.sentence.proofs.say.Given as goal
+
+abbrev pub invariant-loop-i : goal.invariant-loop-i
+invariant-loop-i l = (l.i ≤ length l.sentence) × (length l.out ≡ length l.initial.out) × ((b : List ℕ) (q : ℕ) → Put l.out l.p (filled l.f (drop l.i l.sentence)) b q → Put l.initial.out l.at (filled l.f l.sentence) b q)
+
+abbrev pub decreases-loop-i : goal.decreases-loop-i
+decreases-loop-i l = length l.sentence - l.i

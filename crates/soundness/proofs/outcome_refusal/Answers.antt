@@ -1,0 +1,6 @@
+-- The reason that a frame which does not pass brings.
+use borrow.Author.Rules.{rules}
+use Rattle.soundness.proofs.outcome_refusal.Goals as goal
+
+pub returns-in-Bad : goal.returns-in-Bad
+returns-in-Bad c = rw c.in-Bad.is

@@ -1,0 +1,17 @@
+-- Invariant: scanning the whole text is scanning it from line i on, and the words of the first i lines are written.
+use Prim.Native.Nat.{◌+◌, ◌-◌, ◌≤◌}
+use mathlib.Core.Path.{◌≡◌, refl, sym, ◌∙◌}
+use mathlib.Core.List.{◌++◌}
+use native.Mathlib.Omega.{arith}
+use borrow.Author.Rules.{rules}
+use lib.ListN.{length, drop, length-set}
+use Rattle.frame.specs.Limits.{most_frames}
+use Rattle.text.specs.Text.{scan_from, words_to, word_at}
+use Rattle.text.proofs.Laws.{scan_done, scan_step, full_reached, words_turn}
+use Rattle.text.proofs.read_into.Given as goal
+
+abbrev pub invariant-loop-i : goal.invariant-loop-i
+invariant-loop-i l = (l.i ≤ most_frames) × (scan_from most_frames l.s 0 ≡ scan_from (most_frames - l.i) l.s l.i) × (l.words ≡ words_to l.s l.i ++ drop l.i l.initial.words) × (length l.words ≡ length l.initial.words)
+
+abbrev pub decreases-loop-i : goal.decreases-loop-i
+decreases-loop-i l = most_frames - l.i

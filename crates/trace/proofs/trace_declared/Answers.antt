@@ -1,0 +1,28 @@
+use mathlib.Core.Path.{sym, ◌∙◌}
+use lib.ListN.{length}
+use borrow.Author.Tests.{lt-ltb, le-ltb}
+use Rattle.guards.specs.declared.Judgement.TheVariants.{Declared}
+use Rattle.reply.specs.declared.Verdict.TheVariants.{Reducible}
+use Rattle.verdict.proofs.Laws.{verdict_fits}
+use Rattle.trace.proofs.Laws.{frames_whole}
+use borrow.Author.Rules.{rules}
+use Rattle.trace.proofs.trace_declared.Goals as goal
+
+pub returns-then-line-lt-LINE : goal.returns-then-line-lt-LINE
+returns-then-line-lt-LINE c =
+    record {
+      kind = simp (lt-ltb _ _ c.if-line-lt-LINE.true);
+      contents = simp (lt-ltb _ _ c.if-line-lt-LINE.true);
+    }
+
+pub returns : goal.returns
+returns c =
+    let d = c.judge-r in
+    let p = c.args in
+    let t = le-ltb _ _ c.if-line-lt-LINE.false in
+    let n = length p.words.now in
+    let w = frames_whole d.result n (λ e. verdict_fits Declared p.list.now p.words.now Reducible (sym d.ensures ∙ e)) in
+    record {
+      kind = rw (t, ← d.ensures) c.answer.ensures.kind;
+      contents = rw (t, ← d.ensures, ← w) c.answer.ensures.contents;
+    }

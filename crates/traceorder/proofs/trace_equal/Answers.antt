@@ -1,0 +1,12 @@
+use mathlib.Core.Path.{sym, ◌∙◌}
+use borrow.Author.Rules.{rules}
+use Rattle.traceorder.proofs.trace_equal.Goals as goal
+
+pub returns-in-Equal : goal.returns-in-Equal
+returns-in-Equal c = rw (sym c.equal-q.ensures ∙ c.in-Equal.is)
+
+pub returns-in-Different : goal.returns-in-Different
+returns-in-Different c = rw (sym c.equal-q.ensures ∙ c.in-Different.is)
+
+pub returns-in-Refused : goal.returns-in-Refused
+returns-in-Refused c = rw (sym c.equal-q.ensures ∙ c.in-Refused.is) c.pack_side.ensures

@@ -1,0 +1,25 @@
+-- The refusal of the list, or the commits under its table.
+use mathlib.Core.Path.{sym, ap, ◌∙◌}
+use Rattle.guards.specs.declared.GuardsRead.{GuardsRead}
+use Rattle.unitcommits.specs.UnitCommits.{commits_under, commits_out_under}
+use borrow.Author.Rules.{rules}
+use Rattle.unitcommits.proofs.commits.Goals as goal
+
+pub returns-in_default : goal.returns-in_default
+unfolding commits_under commits_out_under
+returns-in_default c =
+    let told = c.in_default.is in
+    let q = sym (ap (λ (x : GuardsRead). x.reply) c.guards_under-g.ensures) ∙ told in
+    record {
+      reply = rw (q, c.list_refused.ensures, told);
+      contents = rw q;
+    }
+
+pub returns : goal.returns
+unfolding commits_under commits_out_under
+returns c =
+    let q = sym (ap (λ (x : GuardsRead). x.reply) c.guards_under-g.ensures) ∙ c.in-Lines.is in
+    record {
+      reply = rw q c.under_guards.ensures.reply;
+      contents = rw (q, ← c.guards_under-g.ensures) c.under_guards.ensures.contents;
+    }
