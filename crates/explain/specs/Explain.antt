@@ -2,7 +2,6 @@
 -- What the slots of a sentence stand for is said by `piece` (crate sentence).
 use Rattle.std.specs.Prelude.{ℕ, cond, List, eqb}
 use Prim.Native.String.{String}
-use Rattle.frame.specs.declared.Refused.{Refused}
 use Rattle.reply.specs.declared.Verdict.{Verdict}
 use Rattle.reply.specs.declared.Verdict.TheVariants as verdict
 use Rattle.reply.specs.declared.Reply.{Reply}

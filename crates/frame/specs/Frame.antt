@@ -3,7 +3,6 @@
 -- Quotes are from docs/FORMAT.md.
 use Rattle.std.specs.Prelude.{ℕ, ◌+◌, ◌*◌, ◌/◌, ◌%◌, ◌<◌, Bool, cond, ltb, leb, eqb}
 use Rattle.frame.specs.Limits.{thread_count, lock_count, variable_count}
-use Rattle.frame.specs.declared.Thread.{Thread}
 use Rattle.frame.specs.declared.Frame.{Frame}
 use Rattle.frame.specs.declared.Action.{Action}
 use Rattle.frame.specs.declared.Action.TheVariants.{Acquire, Release, Read, Write, Begin, End}

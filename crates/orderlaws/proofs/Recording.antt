@@ -150,7 +150,7 @@ module _ (guards : List ℕ) where
   pass_keys end = refl
   pass_keys (on {i = i} {s = s} {j = j} {w = w} {ws = ws} {f = f} {n = n} {k = k} d g a o rest) =
       let begun : commits_from guards i (point s j) (w ∷ ws) ≡ commit_in (phase_of (get_or s.depths (thread_of f) 0) (get_or j.begins (thread_of f) 0) (get_or j.commits (thread_of f) 0))
-          (commit_from guards f.thread i (point s j) (w ∷ ws)) ∷ commits_from guards (suc i) (point n k) ws = rw (d, a, g, add-one i) in
+      (commit_from guards f.thread i (point s j) (w ∷ ws)) ∷ commits_from guards (suc i) (point n k) ws = rw (d, a, g, add-one i) in
       begun
       ∙ (ap (λ (x : ℕ). x ∷ commits_from guards (suc i) (point n k) ws) first
       ∙ (ap (λ (x : List ℕ). key_of guards (view_of s j) i f (frames_of ws) ∷ x) (pass_keys rest)

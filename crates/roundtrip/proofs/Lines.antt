@@ -1,6 +1,6 @@
 -- Reading a written verdict line, and writing what was read. In this order: a begin or a commit, over any width; digits behind digits; a field of
 -- a written line; the written line read; a read line taken apart, and written; the line of a reply.
-use Prim.Native.Nat.{ℕ, ◌+◌, ◌-◌, ◌%◌, ◌≤◌, ◌<◌}
+use Prim.Native.Nat.{ℕ, ◌+◌, ◌%◌, ◌≤◌, ◌<◌}
 use mathlib.Core.Path.{◌≡◌, refl, sym, ap, ◌∙◌}
 use mathlib.Core.Bool.{Bool, true, false}
 use mathlib.Core.List.{List, [], ◌∷◌, ◌++◌, append_assoc}

@@ -53,9 +53,9 @@ module _ (s : State) (t : ℕ) where
     -- "Java provides re-entrant locks" (section 4.3)
     act_reentrant_acquire : {m : Lock} → owner_of m s ≡ t + 1 → Acts (action.Acquire m) (with_count m (count_of m s + 1) s)
     act_reentrant_release : {m : Lock} → owner_of m s ≡ t + 1 → 1 < count_of m s → Acts (action.Release m) (with_count m (count_of m s - 1) s)
-    -- [ACT OTHER], and "if T(t, π, begin, π') then A(π') = A(π) + 1" of section 2.2
+    -- [ACT OTHER], and "if T(t, π, begin, π′) then A(π′) = A(π) + 1" of section 2.2
     act_other_begin : Acts action.Begin (state_of s.owners s.counts (set s.depths t (get_or s.depths t 0 + 1)))
-    -- [ACT OTHER], and "if T(t, π, end, π'), then A(π) > 0 and A(π') = A(π) - 1" of section 2.2
+    -- [ACT OTHER], and "if T(t, π, end, π′), then A(π) > 0 and A(π′) = A(π) - 1" of section 2.2
     act_other_end : 0 < get_or s.depths t 0 → Acts action.End (state_of s.owners s.counts (set s.depths t (get_or s.depths t 0 - 1)))
 
 -- The format's own limits, which the figures do not have: "9: begin inside 15 open blocks of this thread .. 20: acquire of a lock that this

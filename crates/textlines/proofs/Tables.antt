@@ -7,7 +7,7 @@ use native.Mathlib.Omega.{arith}
 use native.Mathlib.Nat.{not-suc-le-zero}
 use borrow.Author.Tests.{ltb-true}
 use lib.Dec.{eqb, ltb}
-use lib.ListN.{length, take, drop, get_or}
+use lib.ListN.{length, get_or}
 use lib.Seq.{take-append_seam, drop-append_seam}
 use Rattle.laws.proofs.Logic.{never}
 use Rattle.textlines.specs.Lines.{line_length, nth_line}

@@ -2,7 +2,6 @@
 -- Quotes are from docs/FORMAT.md.
 use Rattle.std.specs.Prelude.{ℕ, ◌+◌, cond, List, ◌++◌, ltb, length, drop}
 use Rattle.frame.specs.Refusal.{refusal_number}
-use Rattle.frame.specs.declared.Refused.{Refused}
 use Rattle.frame.specs.declared.Refusal.TheVariants as refusal
 use Rattle.text.specs.declared.ReadReply.{ReadReply}
 use Rattle.text.specs.declared.ReadReply.TheVariants as read

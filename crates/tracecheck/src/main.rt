@@ -26,7 +26,9 @@ fn read_text<R: Read>(input: &mut R, text: &mut [u8]) -> io::Result<usize>
 fn main(rt: HostRuntime) {
     let mut text = [0u8; text::MOST_BYTES + 1];
     let Ok(n) = read_text(&mut rt.stdin(), &mut text) else {
-        let _ = rt.stderr().write_all(b"error: cannot read standard input\n");
+        let _ = rt
+            .stderr()
+            .write_all(b"error: cannot read standard input\n");
         return;
     };
     let mut line = [0u8; line::LINE];

@@ -27,7 +27,7 @@ use Rattle.instrumented.specs.Held.{held_set, Holdable, held, Follows}
 use Rattle.judge.proofs.Held.{mine, mine_other, held_lt, held_none, held_same, held_take, held_free}
 use Rattle.judge.proofs.Laws.{access_fits, access_holds}
 use Rattle.turn.specs.declared.Turn.TheVariants as turn
-use Rattle.turn.specs.Turn.{judge_frame, turned, turned_to, by_verdict}
+use Rattle.turn.specs.Turn.{turned, turned_to, by_verdict}
 
 -- a store to the held sets
 stored : (owners owners' held : List ℕ) (t x : ℕ) → t < thread_count → length owners' ≡ lock_count → Follows held owners

@@ -3,7 +3,6 @@ use Rattle.line.specs.declared.Fields.{Fields}
 use Rattle.line.specs.Line.{reply_fields}
 use Rattle.line.proofs.Laws.{held_line}
 use Rattle.answer.proofs.Laws.{kind_of_lem}
-use borrow.Author.Rules.{rules}
 use Rattle.answer.proofs.answer.Goals as goal
 
 pub returns : goal.returns

@@ -4,7 +4,6 @@ use lib.Seq.{length-take-le}
 use Rattle.frame.specs.Limits.{most_frames}
 use Rattle.text.proofs.Laws.{after_into}
 use Rattle.answer.specs.Answer.{text_judged}
-use borrow.Author.Rules.{rules}
 use Rattle.answer.proofs.judge_text.Goals as goal
 
 pub slice_bounds-words-end : goal.slice_bounds-words-end

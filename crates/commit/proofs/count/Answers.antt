@@ -3,7 +3,6 @@ use mathlib.Core.Path.{◌≡◌, refl, sym, ap}
 use native.Mathlib.Omega.{arith}
 use borrow.Author.Tests.{le-leb, lt-leb}
 use lib.ListN.{get_or, set}
-use borrow.Author.Rules.{rules}
 use Rattle.commit.proofs.count.Goals as goal
 
 pub bounds-counts-k : goal.bounds-counts-k

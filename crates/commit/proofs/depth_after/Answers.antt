@@ -1,4 +1,3 @@
-use borrow.Author.Rules.{rules}
 use Rattle.commit.proofs.depth_after.Goals as goal
 
 pub returns-then-d-eq0 : goal.returns-then-d-eq0

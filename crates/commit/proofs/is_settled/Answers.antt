@@ -1,4 +1,3 @@
-use borrow.Author.Rules.{rules}
 use Rattle.commit.proofs.is_settled.Goals as goal
 
 pub returns : goal.returns

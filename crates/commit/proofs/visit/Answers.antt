@@ -1,6 +1,5 @@
 use mathlib.Core.Path.{refl}
 use Rattle.commit.specs.Commit.{visited, unit_start}
-use borrow.Author.Rules.{rules}
 use Rattle.commit.proofs.visit.Goals as goal
 
 pub depth_after-depth-requires : goal.depth_after-depth-requires

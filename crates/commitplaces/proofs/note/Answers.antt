@@ -1,7 +1,6 @@
 -- The three cases.
 use mathlib.Core.Path.{sym}
 use lib.Seq.{set_out}
-use borrow.Author.Rules.{rules}
 use Rattle.commitplaces.proofs.note.Goals as goal
 
 pub returns-then-k-commits : goal.returns-then-k-commits

@@ -1,11 +1,8 @@
-use Prim.Native.Nat.{◌-◌}
 use mathlib.Core.Path.{sym, ◌∙◌}
 use native.Mathlib.Omega.{arith}
-use borrow.Author.Rules.{rules}
-use lib.ListN.{length}
 use Rattle.frame.proofs.Laws.{decoded_in_range}
 use Rattle.walk.proofs.Walks.{counts_fit, depths_fit}
-use Rattle.commitplaces.proofs.Turns.{Inv, begins, done, stops, next}
+use Rattle.commitplaces.proofs.Turns.{begins, done, stops, next}
 use Rattle.commitplaces.proofs.walk.Goals as goal
 
 pub loop-i-init : goal.loop-i-init

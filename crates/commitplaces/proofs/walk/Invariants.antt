@@ -1,12 +1,7 @@
 -- Each turn is a law of proofs/Turns at the values that the code has there.
 use Prim.Native.Nat.{◌-◌}
-use mathlib.Core.Path.{sym, ◌∙◌}
-use native.Mathlib.Omega.{arith}
-use borrow.Author.Rules.{rules}
 use lib.ListN.{length}
-use Rattle.frame.proofs.Laws.{decoded_in_range}
-use Rattle.walk.proofs.Walks.{counts_fit, depths_fit}
-use Rattle.commitplaces.proofs.Turns.{Inv, begins, done, stops, next}
+use Rattle.commitplaces.proofs.Turns.{Inv}
 use Rattle.commitplaces.proofs.walk.Given as goal
 
 abbrev pub invariant-loop-i : goal.invariant-loop-i

@@ -1,6 +1,5 @@
 -- The two cases.
 use borrow.Author.Tests.{le-leb, lt-leb}
-use borrow.Author.Rules.{rules}
 use Rattle.commitplaces.proofs.write_commits.Goals as goal
 
 pub returns-then-words-le-MOST : goal.returns-then-words-le-MOST

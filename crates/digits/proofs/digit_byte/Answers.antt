@@ -1,7 +1,6 @@
 -- A digit is told by the same test as in its definition.
 use borrow.Author.Tests.{lt-ltb, le-ltb}
 use Rattle.digits.specs.Digits.{byte_of}
-use borrow.Author.Rules.{rules}
 use Rattle.digits.proofs.digit_byte.Goals as goal
 
 pub returns-then-v-lt10 : goal.returns-then-v-lt10

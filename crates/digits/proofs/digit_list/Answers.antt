@@ -1,9 +1,8 @@
-use Prim.Native.Nat.{◌-◌, ◌≤◌}
 use mathlib.Core.Path.{◌≡◌, refl, ◌∙◌}
-use mathlib.Core.List.{◌++◌, append-nil}
+use mathlib.Core.List.{append-nil}
 use native.Mathlib.Omega.{arith}
 use borrow.Author.Rules.{rules}
-use lib.ListN.{length, length-set, take, drop, drop_of_length-le}
+use lib.ListN.{length, length-set, drop_of_length-le}
 use Rattle.digits.specs.Digits.{values_of, others}
 use Rattle.digits.proofs.Numbers.{digit_most, value_more, count_more}
 use Rattle.digits.proofs.digit_list.Goals as goal

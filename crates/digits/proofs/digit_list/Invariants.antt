@@ -1,12 +1,9 @@
 -- Invariant: the values of the first k bytes stand at the front of out, and so many of these bytes are no digit.
 use Prim.Native.Nat.{◌-◌, ◌≤◌}
-use mathlib.Core.Path.{◌≡◌, refl, ◌∙◌}
-use mathlib.Core.List.{◌++◌, append-nil}
-use native.Mathlib.Omega.{arith}
-use borrow.Author.Rules.{rules}
-use lib.ListN.{length, length-set, take, drop, drop_of_length-le}
+use mathlib.Core.Path.{◌≡◌}
+use mathlib.Core.List.{◌++◌}
+use lib.ListN.{length, take, drop}
 use Rattle.digits.specs.Digits.{values_of, others}
-use Rattle.digits.proofs.Numbers.{digit_most, value_more, count_more}
 use Rattle.digits.proofs.digit_list.Given as goal
 
 abbrev pub invariant-loop-k : goal.invariant-loop-k

@@ -1,6 +1,5 @@
 -- The table's rule is one test at each of its entries, which antt computes.
 use mathlib.Core.Path.{refl}
-use borrow.Author.Rules.{rules}
 use Rattle.digits.specs.Digits.{value_of, digit_of}
 use Rattle.digits.proofs.Every.{values_of}
 use Rattle.digits.proofs.digit_values.Goals as goal

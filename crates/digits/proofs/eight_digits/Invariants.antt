@@ -1,11 +1,8 @@
 -- Invariant: the sum so far is bounded, and the sum of the whole field is the sum from place k on after it.
 use Prim.Native.Nat.{◌+◌, ◌-◌, ◌*◌, ◌^◌, ◌≤◌}
-use mathlib.Core.Path.{◌≡◌, ◌∙◌}
-use native.Mathlib.Omega.{arith}
-use native.Mathlib.Nat.{add-zero, sub-zero}
-use borrow.Author.Rules.{rules}
+use mathlib.Core.Path.{◌≡◌}
 use lib.ListN.{take, drop}
-use Rattle.digits.proofs.Sums.{sum_from, eight, sum_turn, sum_end, sum_more, value_fits, power_below}
+use Rattle.digits.proofs.Sums.{sum_from}
 use Rattle.digits.proofs.eight_digits.Given as goal
 
 abbrev pub invariant-loop-k : goal.invariant-loop-k

@@ -1,10 +1,9 @@
-use Prim.Native.Nat.{◌+◌, ◌-◌, ◌^◌, ◌≤◌, ◌<◌}
+use Prim.Native.Nat.{◌+◌}
 use mathlib.Core.Path.{◌≡◌, sym, ◌∙◌}
 use native.Mathlib.Omega.{arith}
 use borrow.Author.Rules.{rules}
-use lib.ListN.{take, drop}
-use Rattle.digits.specs.Digits.{joined, DigitValues}
-use Rattle.digits.proofs.Numbers.{joined_from, joined_all, joined_more, joined_end, wider, sixteen}
+use Rattle.digits.specs.Digits.{DigitValues}
+use Rattle.digits.proofs.Numbers.{joined_all, joined_more, joined_end, wider, sixteen}
 use Rattle.digits.proofs.join.Goals as goal
 
 pub loop-k-init : goal.loop-k-init

@@ -1,11 +1,9 @@
 -- Invariant: the number so far is held by its digits, and the values that are left make the whole number behind it.
-use Prim.Native.Nat.{◌+◌, ◌-◌, ◌^◌, ◌≤◌, ◌<◌}
-use mathlib.Core.Path.{◌≡◌, sym, ◌∙◌}
-use native.Mathlib.Omega.{arith}
-use borrow.Author.Rules.{rules}
+use Prim.Native.Nat.{◌-◌, ◌^◌, ◌≤◌, ◌<◌}
+use mathlib.Core.Path.{◌≡◌}
 use lib.ListN.{take, drop}
-use Rattle.digits.specs.Digits.{joined, DigitValues}
-use Rattle.digits.proofs.Numbers.{joined_from, joined_all, joined_more, joined_end, wider, sixteen}
+use Rattle.digits.specs.Digits.{joined}
+use Rattle.digits.proofs.Numbers.{joined_from}
 use Rattle.digits.proofs.join.Given as goal
 
 abbrev pub invariant-loop-k : goal.invariant-loop-k

@@ -1,9 +1,7 @@
-use Prim.Native.Nat.{◌+◌, ◌-◌, ◌≤◌}
+use Prim.Native.Nat.{◌+◌, ◌-◌}
 use mathlib.Core.Path.{◌≡◌, refl, sym, ◌∙◌}
 use native.Mathlib.Omega.{arith}
-use borrow.Author.Rules.{rules}
-use lib.ListN.{length, length-set}
-use Rattle.digits.specs.Digits.{digits, pasted}
+use lib.ListN.{length-set}
 use Rattle.digits.proofs.Writing.{pasted_none, pasted_digit}
 use Rattle.digits.proofs.put.Goals as goal
 

@@ -1,11 +1,8 @@
 -- Invariant: pasting the k digits that are left into the buffer as it is gives what is to be written.
-use Prim.Native.Nat.{◌+◌, ◌-◌, ◌≤◌}
-use mathlib.Core.Path.{◌≡◌, refl, sym, ◌∙◌}
-use native.Mathlib.Omega.{arith}
-use borrow.Author.Rules.{rules}
-use lib.ListN.{length, length-set}
+use Prim.Native.Nat.{◌≤◌}
+use mathlib.Core.Path.{◌≡◌}
+use lib.ListN.{length}
 use Rattle.digits.specs.Digits.{digits, pasted}
-use Rattle.digits.proofs.Writing.{pasted_none, pasted_digit}
 use Rattle.digits.proofs.put.Given as goal
 
 abbrev pub invariant-loop-k : goal.invariant-loop-k

@@ -1,7 +1,6 @@
 -- The tests in the order of `line_of`; eight digits by their sum.
 use borrow.Author.Tests.{lt-ltb, le-ltb, ne_eqb, eq-eqb}
 use Rattle.digits.specs.Digits.{line_of}
-use borrow.Author.Rules.{rules}
 use Rattle.digits.proofs.read_line.Goals as goal
 
 pub returns-then-s-at-lt9 : goal.returns-then-s-at-lt9

@@ -1,5 +1,4 @@
 -- Eight digits are written, and LF is left behind them.
-use borrow.Author.Rules.{rules}
 use Rattle.digits.specs.Digits.{word_line}
 use Rattle.digits.proofs.word_line.Goals as goal
 

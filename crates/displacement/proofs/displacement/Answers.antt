@@ -2,7 +2,6 @@ use mathlib.Core.Path.{◌∙◌, sym, subst}
 use mir.Syntax.{w32}
 use mir.Val.{SFits}
 use mir.Facts.{to_z-of_z}
-use borrow.Author.Rules.{rules}
 use Rattle.displacement.proofs.Numbers.{displacement_fits, difference_read}
 use Rattle.displacement.proofs.displacement.Goals as goal
 

@@ -2,8 +2,6 @@ use Prim.Native.Nat.{◌+◌}
 use mathlib.Core.Path.{◌≡◌, refl}
 use native.Mathlib.Omega.{arith}
 use Rattle.displacement.specs.Displacement.{moved}
-use borrow.Author.Rules.{rules}
-use borrow.Author.Rules.{rules}
 use Rattle.displacement.proofs.move_at.Goals as goal
 
 pub returns-in_default : goal.returns-in_default

@@ -1,8 +1,5 @@
-use Prim.Native.Nat.{◌-◌}
 use native.Mathlib.Omega.{arith}
-use lib.ListN.{length}
-use Rattle.displacement.proofs.Units.{UnitInv, unit_begins, unit_ends, passes_over, in_recording, in_order, moves_on, moves_last}
-use borrow.Author.Rules.{rules}
+use Rattle.displacement.proofs.Units.{unit_begins, unit_ends, passes_over, in_recording, in_order, moves_on, moves_last}
 use Rattle.displacement.proofs.move_unit.Goals as goal
 
 pub loop-i-init : goal.loop-i-init

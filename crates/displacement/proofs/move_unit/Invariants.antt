@@ -1,9 +1,7 @@
 -- Each turn is a law of proofs/Units at the values that the code has there.
 use Prim.Native.Nat.{◌-◌}
-use native.Mathlib.Omega.{arith}
 use lib.ListN.{length}
-use Rattle.displacement.proofs.Units.{UnitInv, unit_begins, unit_ends, passes_over, in_recording, in_order, moves_on, moves_last}
-use borrow.Author.Rules.{rules}
+use Rattle.displacement.proofs.Units.{UnitInv}
 use Rattle.displacement.proofs.move_unit.Given as goal
 
 abbrev pub invariant-loop-i : goal.invariant-loop-i

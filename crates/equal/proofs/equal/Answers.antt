@@ -1,6 +1,5 @@
 -- The replies of the two checks decide, and then the comparison.
 use mathlib.Core.Path.{sym, ◌∙◌}
-use borrow.Author.Rules.{rules}
 use Rattle.equal.proofs.equal.Goals as goal
 
 pub returns-in-Refused : goal.returns-in-Refused

@@ -1,7 +1,6 @@
 -- The cases of a reply.
 use borrow.Author.Tests.{eq-eqb, ne_eqb}
 use Rattle.output.specs.Output.{bytes}
-use borrow.Author.Rules.{rules}
 use Rattle.explain.proofs.explain.Goals as goal
 
 pub returns-then-frames-eq0 : goal.returns-then-frames-eq0

@@ -1,5 +1,4 @@
 -- Beyond the end the word is 0.
-use borrow.Author.Rules.{rules}
 use lib.ListN.{get_or-eq_default}
 use Rattle.facts.proofs.frame_at.Goals as goal
 

@@ -1,5 +1,4 @@
 -- The frame is that at the place.
-use borrow.Author.Rules.{rules}
 use Rattle.facts.proofs.place_facts.Goals as goal
 
 pub returns : goal.returns

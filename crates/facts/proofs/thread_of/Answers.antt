@@ -1,5 +1,4 @@
 -- One case for a frame and one for none.
-use borrow.Author.Rules.{rules}
 use Rattle.facts.proofs.thread_of.Goals as goal
 
 pub returns-in_default : goal.returns-in_default

@@ -1,5 +1,4 @@
 -- The frames are those at the place and at the commit.
-use borrow.Author.Rules.{rules}
 use Rattle.facts.proofs.violation_facts.Goals as goal
 
 pub returns : goal.returns

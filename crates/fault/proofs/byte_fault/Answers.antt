@@ -1,7 +1,6 @@
 -- The cases of `byte_fault`.
 use mathlib.Core.Path.{sym, ◌∙◌}
 use borrow.Author.Tests.{eq-eqb, ne_eqb}
-use borrow.Author.Rules.{rules}
 use Rattle.fault.proofs.byte_fault.Goals as goal
 
 pub returns-then-c-eq0 : goal.returns-then-c-eq0

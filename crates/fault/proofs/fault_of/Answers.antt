@@ -1,7 +1,6 @@
 -- The first line, or another.
 use mathlib.Core.Path.{sym, ◌∙◌}
 use borrow.Author.Tests.{eq-eqb, ne_eqb}
-use borrow.Author.Rules.{rules}
 use Rattle.fault.proofs.fault_of.Goals as goal
 
 pub returns-then-m : goal.returns-then-m

@@ -1,6 +1,5 @@
 -- The cases of `marked`.
 use borrow.Author.Tests.{eq-eqb, ne_eqb, lt-ltb, le-ltb}
-use borrow.Author.Rules.{rules}
 use Rattle.fault.proofs.has_mark.Goals as goal
 
 pub returns-then-line-lt3 : goal.returns-then-line-lt3

@@ -1,9 +1,5 @@
-use Prim.Native.Nat.{◌+◌, ◌-◌, ◌≤◌}
-use mathlib.Core.Path.{◌≡◌, sym, ◌∙◌}
+use mathlib.Core.Path.{sym, ◌∙◌}
 use native.Mathlib.Omega.{arith}
-use borrow.Author.Rules.{rules}
-use lib.ListN.{drop}
-use Rattle.fault.specs.Fault.{leading}
 use Rattle.fault.proofs.Laws.{leading_end, leading_next, leading_stops, leading_all}
 use Rattle.fault.proofs.leading_digits.Goals as goal
 

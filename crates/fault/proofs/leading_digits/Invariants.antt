@@ -1,11 +1,8 @@
 -- Invariant: the first c bytes are digits.
 use Prim.Native.Nat.{◌+◌, ◌-◌, ◌≤◌}
-use mathlib.Core.Path.{◌≡◌, sym, ◌∙◌}
-use native.Mathlib.Omega.{arith}
-use borrow.Author.Rules.{rules}
+use mathlib.Core.Path.{◌≡◌}
 use lib.ListN.{drop}
 use Rattle.fault.specs.Fault.{leading}
-use Rattle.fault.proofs.Laws.{leading_end, leading_next, leading_stops, leading_all}
 use Rattle.fault.proofs.leading_digits.Given as goal
 
 abbrev pub invariant-loop-c : goal.invariant-loop-c

@@ -1,6 +1,5 @@
 -- The end of the file, or a byte.
 use borrow.Author.Tests.{eq-eqb, ne_eqb, le-leb, lt-leb}
-use borrow.Author.Rules.{rules}
 use Rattle.fault.proofs.wrong_at.Goals as goal
 
 pub returns-then-c-eq8 : goal.returns-then-c-eq8

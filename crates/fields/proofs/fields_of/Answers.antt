@@ -1,5 +1,4 @@
 -- The fields where the kind is one of a line. Each number is held by its field.
-use borrow.Author.Rules.{rules}
 use Rattle.fields.proofs.fields_of.Goals as goal
 
 pub returns-then-is_kind : goal.returns-then-is_kind

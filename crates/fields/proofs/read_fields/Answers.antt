@@ -5,7 +5,6 @@ use borrow.Author.Tests.{eq-eqb, ne_eqb}
 use Rattle.line.specs.Line.{kind_width, place_width, thread_width, locks_width, frame_at, thread_at, begin_at, commit_at, locks_at}
 use Rattle.fields.specs.Fields.{line_fields}
 use Rattle.fields.proofs.Values.{digits_all, joinable, digits_not, number_of}
-use borrow.Author.Rules.{rules}
 use Rattle.fields.proofs.read_fields.Goals as goal
 
 pub returns-then-line-ne-LINE : goal.returns-then-line-ne-LINE

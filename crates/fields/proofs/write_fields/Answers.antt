@@ -1,5 +1,4 @@
 -- The line where the kind is one of a line.
-use borrow.Author.Rules.{rules}
 use Rattle.fields.proofs.write_fields.Goals as goal
 
 pub returns-then-is_kind : goal.returns-then-is_kind

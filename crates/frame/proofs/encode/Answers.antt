@@ -1,4 +1,3 @@
-use borrow.Author.Rules.{rules}
 use Rattle.frame.proofs.encode.Goals as goal
 
 pub returns-in-Acquire : goal.returns-in-Acquire

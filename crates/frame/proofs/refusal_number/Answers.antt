@@ -1,4 +1,3 @@
-use borrow.Author.Rules.{rules}
 use Rattle.frame.proofs.refusal_number.Goals as goal
 
 pub returns-in-Line : goal.returns-in-Line

@@ -1,5 +1,4 @@
 -- The reason that a word which does not decode brings.
-use borrow.Author.Rules.{rules}
 use Rattle.frame.proofs.refusal_of.Goals as goal
 
 pub returns-in-Bad : goal.returns-in-Bad

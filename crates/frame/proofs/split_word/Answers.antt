@@ -1,5 +1,4 @@
 -- The tests of `split_parts`.
-use borrow.Author.Rules.{rules}
 use borrow.Author.Tests.{lt-ltb, le-ltb, le-leb, lt-leb}
 use Rattle.frame.specs.Frame.{split_parts}
 use Rattle.frame.proofs.split_word.Goals as goal

@@ -1,6 +1,5 @@
 -- The tests in the order of `guard_line`.
 use borrow.Author.Tests.{lt-leb, le-leb}
-use borrow.Author.Rules.{rules}
 use Rattle.guards.proofs.guard_line.Goals as goal
 
 pub returns-in_default : goal.returns-in_default

@@ -1,4 +1,3 @@
-use borrow.Author.Rules.{rules}
 use Rattle.guards.specs.Guards.{inferred_guards}
 use Rattle.guards.proofs.guards_under.Goals as goal
 

@@ -1,11 +1,9 @@
-use Prim.Native.Nat.{◌-◌, ◌≤◌}
+use Prim.Native.Nat.{◌-◌}
 use mathlib.Core.Path.{◌≡◌, refl, sym, ◌∙◌}
 use native.Mathlib.Omega.{arith}
-use borrow.Author.Rules.{rules}
 use borrow.Author.Tests.{eq-eqb, ne_eqb}
-use lib.ListN.{length, length-set}
-use Rattle.frame.specs.Limits.{variable_count, most_frames}
-use Rattle.guards.specs.Guards.{guards_from, guards_read}
+use lib.ListN.{length-set}
+use Rattle.frame.specs.Limits.{most_frames}
 use Rattle.guards.proofs.Laws.{guards_done, guards_over, guards_turn, names_variable}
 use Rattle.guards.proofs.read_guards.Goals as goal
 

@@ -1,13 +1,9 @@
 -- Invariant: reading the whole list is reading it from line i on with the table of the lines before.
 use Prim.Native.Nat.{◌-◌, ◌≤◌}
-use mathlib.Core.Path.{◌≡◌, refl, sym, ◌∙◌}
-use native.Mathlib.Omega.{arith}
-use borrow.Author.Rules.{rules}
-use borrow.Author.Tests.{eq-eqb, ne_eqb}
-use lib.ListN.{length, length-set}
+use mathlib.Core.Path.{◌≡◌}
+use lib.ListN.{length}
 use Rattle.frame.specs.Limits.{variable_count, most_frames}
 use Rattle.guards.specs.Guards.{guards_from, guards_read}
-use Rattle.guards.proofs.Laws.{guards_done, guards_over, guards_turn, names_variable}
 use Rattle.guards.proofs.read_guards.Given as goal
 
 abbrev pub invariant-loop-i : goal.invariant-loop-i

@@ -3,7 +3,6 @@ use mathlib.Core.Path.{refl, sym, ◌∙◌}
 use native.Mathlib.Omega.{arith}
 use lib.ListN.{get_or}
 use borrow.Author.Tests.{eq-eqb, ne_eqb}
-use borrow.Author.Rules.{rules}
 use Rattle.instrumented.specs.Rules.{judge_operation, judging_of, with_commit, committed}
 use Rattle.instrumented.proofs.Laws.{acquire_after, acquire_else, unprotected_after, unprotected_else}
 use Rattle.instrumented.proofs.apply.Goals as goal

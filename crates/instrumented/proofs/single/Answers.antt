@@ -1,5 +1,4 @@
 use Rattle.instrumented.proofs.Laws.{shl_one}
-use borrow.Author.Rules.{rules}
 use Rattle.instrumented.proofs.single.Goals as goal
 
 pub returns : goal.returns

@@ -1,5 +1,4 @@
 use borrow.Author.Tests.{eq-eqb, ne_eqb}
-use borrow.Author.Rules.{rules}
 use Rattle.judge.proofs.commit_mark.Goals as goal
 
 pub returns-then-d-eq0 : goal.returns-then-d-eq0

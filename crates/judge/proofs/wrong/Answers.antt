@@ -1,5 +1,4 @@
 use Rattle.judge.proofs.Laws.{marks}
-use borrow.Author.Rules.{rules}
 use Rattle.judge.proofs.wrong.Goals as goal
 
 pub returns : goal.returns

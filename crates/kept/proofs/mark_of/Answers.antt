@@ -1,5 +1,4 @@
 -- The two cases of a mark.
-use borrow.Author.Rules.{rules}
 use Rattle.kept.proofs.mark_of.Goals as goal
 
 pub returns-in-At : goal.returns-in-At

@@ -1,7 +1,6 @@
 -- One case for each range of kinds.
 use borrow.Author.Tests.{eq-eqb, ne_eqb, lt-ltb, le-ltb}
 use Rattle.kept.specs.Kept.{kept_by}
-use borrow.Author.Rules.{rules}
 use Rattle.kept.proofs.reply_of.Goals as goal
 
 pub returns-then-k-eq0 : goal.returns-then-k-eq0

@@ -1,5 +1,4 @@
 -- The fields' values, one by one.
-use borrow.Author.Rules.{rules}
 use Rattle.kept.proofs.violation_of.Goals as goal
 
 pub returns : goal.returns

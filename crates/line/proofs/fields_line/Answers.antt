@@ -1,8 +1,5 @@
 -- The six fields are written one behind the other, and LF is left behind them.
 use Rattle.line.proofs.Laws.{fields_written}
-use borrow.Author.Rules.{rules}
-use Rattle.digits.proofs.put.Reads as put_reads
-use Rattle.line.proofs.mark_field.Reads as mark_field_reads
 use Rattle.line.proofs.fields_line.Goals as goal
 
 pub returns : goal.returns

@@ -1,6 +1,4 @@
 -- A place has its low digits.
-use borrow.Author.Rules.{rules}
-use Rattle.line.proofs.held_place.Reads as held_place_reads
 use Rattle.line.proofs.line_mark.Goals as goal
 
 pub returns-in-At : goal.returns-in-At

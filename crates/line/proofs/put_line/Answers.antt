@@ -1,9 +1,8 @@
-use Prim.Native.Nat.{ℕ, ◌-◌, ◌≤◌}
+use Prim.Native.Nat.{ℕ}
 use mathlib.Core.Path.{◌≡◌, refl, ap, ◌∙◌}
 use mathlib.Core.List.{List, ◌++◌}
 use native.Mathlib.Omega.{arith}
-use borrow.Author.Rules.{rules}
-use lib.ListN.{length, length-set, take, drop}
+use lib.ListN.{length-set, drop}
 use lib.Seq.{take_all}
 use Rattle.laws.proofs.Lists.{copied_next}
 use Rattle.line.specs.Line.{line_length}

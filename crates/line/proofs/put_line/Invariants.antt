@@ -1,12 +1,8 @@
 -- Invariant: the first i bytes are the line's, and the rest is as it was.
-use Prim.Native.Nat.{ℕ, ◌-◌, ◌≤◌}
-use mathlib.Core.Path.{◌≡◌, refl, ap, ◌∙◌}
-use mathlib.Core.List.{List, ◌++◌}
-use native.Mathlib.Omega.{arith}
-use borrow.Author.Rules.{rules}
-use lib.ListN.{length, length-set, take, drop}
-use lib.Seq.{take_all}
-use Rattle.laws.proofs.Lists.{copied_next}
+use Prim.Native.Nat.{◌-◌, ◌≤◌}
+use mathlib.Core.Path.{◌≡◌}
+use mathlib.Core.List.{◌++◌}
+use lib.ListN.{length, take, drop}
 use Rattle.line.specs.Line.{line_length}
 use Rattle.line.proofs.put_line.Given as goal
 

@@ -1,12 +1,6 @@
 -- The fields of each case of a reply. A refusal's number is small, so that 128 can be added to it.
 use native.Mathlib.Omega.{arith}
 use Rattle.frame.proofs.Laws.{number_small}
-use borrow.Author.Rules.{rules}
-use Rattle.frame.proofs.refusal_number.Reads as refusal_number_reads
-use Rattle.line.proofs.bare_fields.Reads as bare_fields_reads
-use Rattle.line.proofs.held_place.Reads as held_place_reads
-use Rattle.line.proofs.line_mark.Reads as line_mark_reads
-use Rattle.reply.proofs.kind_number.Reads as kind_number_reads
 use Rattle.line.proofs.reply_fields.Goals as goal
 
 pub overflow_add-refusal_number : goal.overflow_add-refusal_number

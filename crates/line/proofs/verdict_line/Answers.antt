@@ -2,7 +2,6 @@
 use mathlib.Core.Path.{ap, ◌∙◌}
 use Rattle.line.specs.Line.{reply_fields, fields_line}
 use Rattle.line.proofs.Laws.{held_line}
-use borrow.Author.Rules.{rules}
 use Rattle.line.proofs.verdict_line.Goals as goal
 
 pub returns : goal.returns

@@ -1,6 +1,5 @@
 -- The line that is wrong, or the sentence of the refusal.
 use borrow.Author.Tests.{eq-eqb, ne_eqb, lt-ltb, le-ltb}
-use borrow.Author.Rules.{rules}
 use Rattle.linefault.proofs.explain_refused.Goals as goal
 
 pub returns-then-start-text : goal.returns-then-start-text

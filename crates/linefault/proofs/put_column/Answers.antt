@@ -2,7 +2,6 @@
 use borrow.Author.Tests.{le-leb, lt-leb}
 use Rattle.output.specs.Output.{bytes}
 use Rattle.output.proofs.Laws.{put_more}
-use borrow.Author.Rules.{rules}
 use Rattle.linefault.proofs.put_column.Goals as goal
 
 pub returns-then-line-c : goal.returns-then-line-c

@@ -3,7 +3,6 @@ use mathlib.Core.Path.{sym}
 use Rattle.output.specs.Output.{bytes}
 use Rattle.textlines.proofs.Tables.{joined}
 use Rattle.linefault.proofs.Sentences.{fault_line}
-use borrow.Author.Rules.{rules}
 use Rattle.linefault.proofs.put_fault.Goals as goal
 
 pub returns : goal.returns

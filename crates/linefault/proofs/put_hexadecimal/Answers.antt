@@ -1,6 +1,5 @@
 -- Two digits.
 use Rattle.digits.specs.Digits.{digits}
-use borrow.Author.Rules.{rules}
 use Rattle.linefault.proofs.put_hexadecimal.Goals as goal
 
 pub returns : goal.returns

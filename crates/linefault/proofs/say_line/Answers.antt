@@ -2,7 +2,6 @@
 use Rattle.output.specs.Output.{bytes}
 use Rattle.output.proofs.Laws.{put_more}
 use Rattle.fault.proofs.Laws.{leading_most}
-use borrow.Author.Rules.{rules}
 use Rattle.linefault.proofs.say_line.Goals as goal
 
 pub put_column-q-requires : goal.put_column-q-requires

@@ -1,6 +1,5 @@
 -- The line that is read, or the refusal.
 use mathlib.Core.Path.{sym, ◌∙◌}
-use borrow.Author.Rules.{rules}
 use Rattle.linereport.proofs.line_report.Goals as goal
 
 pub returns-in-Read : goal.returns-in-Read

@@ -1,6 +1,5 @@
 -- The two cases of a kept line.
 use mathlib.Core.Path.{sym, ◌∙◌}
-use borrow.Author.Rules.{rules}
 use Rattle.linereport.proofs.put_kept.Goals as goal
 
 pub returns-in-Reply : goal.returns-in-Reply

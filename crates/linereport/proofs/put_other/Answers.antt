@@ -1,7 +1,6 @@
 -- Five texts, one behind the other.
 use Rattle.output.specs.Output.{bytes}
 use Rattle.output.proofs.Laws.{put_more}
-use borrow.Author.Rules.{rules}
 use Rattle.linereport.proofs.put_other.Goals as goal
 
 pub returns : goal.returns

@@ -1,5 +1,4 @@
 -- The two cases of a reply.
-use borrow.Author.Rules.{rules}
 use Rattle.linereport.proofs.source_of.Goals as goal
 
 pub returns-in-Refused : goal.returns-in-Refused

@@ -1,8 +1,6 @@
-use Prim.Native.Nat.{◌-◌}
 use native.Mathlib.Omega.{arith}
 use borrow.Author.Rules.{rules}
-use lib.ListN.{length}
-use Rattle.matching.proofs.Passing.{Passing, passing_more, passed_mine, passed_all}
+use Rattle.matching.proofs.Passing.{passing_more, passed_mine, passed_all}
 use Rattle.matching.proofs.find.Goals as goal
 
 pub loop-i-init : goal.loop-i-init

@@ -1,7 +1,6 @@
 -- Each arm by what the action is.
 use mathlib.Core.Path.{refl}
 use native.Mathlib.Omega.{arith}
-use borrow.Author.Rules.{rules}
 use Rattle.matching.proofs.note_last.Goals as goal
 
 pub store-requires : goal.store-requires

@@ -1,6 +1,5 @@
 -- The larger number is stored, by `larger`.
 use mathlib.Core.Path.{refl}
-use borrow.Author.Rules.{rules}
 use Rattle.matching.proofs.note_read.Goals as goal
 
 pub returns : goal.returns

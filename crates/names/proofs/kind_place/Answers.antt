@@ -1,6 +1,5 @@
 -- One case for each range.
 use borrow.Author.Tests.{lt-ltb, le-ltb}
-use borrow.Author.Rules.{rules}
 use Rattle.names.proofs.kind_place.Goals as goal
 
 pub returns-then-kind-lt5 : goal.returns-then-kind-lt5

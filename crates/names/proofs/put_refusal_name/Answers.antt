@@ -1,6 +1,5 @@
 -- The place of the refusal's name is one of the table.
 use Rattle.names.proofs.Places.{refusal_within}
-use borrow.Author.Rules.{rules}
 use Rattle.names.proofs.put_refusal_name.Goals as goal
 
 pub put_name-requires : goal.put_name-requires

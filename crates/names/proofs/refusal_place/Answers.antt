@@ -1,6 +1,5 @@
 -- One case for each range.
 use borrow.Author.Tests.{eq-eqb, ne_eqb, lt-ltb, le-ltb}
-use borrow.Author.Rules.{rules}
 use Rattle.names.proofs.refusal_place.Goals as goal
 
 pub returns-then-number-eq0 : goal.returns-then-number-eq0

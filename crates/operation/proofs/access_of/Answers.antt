@@ -1,5 +1,4 @@
 use mathlib.Core.Path.{sym, ◌∙◌}
-use borrow.Author.Rules.{rules}
 use Rattle.operation.proofs.access_of.Goals as goal
 
 pub returns-in-Locked : goal.returns-in-Locked

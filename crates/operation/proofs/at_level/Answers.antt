@@ -1,4 +1,3 @@
-use borrow.Author.Rules.{rules}
 use Rattle.operation.proofs.at_level.Goals as goal
 
 pub returns-in-Outer : goal.returns-in-Outer

@@ -1,4 +1,3 @@
-use borrow.Author.Rules.{rules}
 use Rattle.operation.proofs.operation_of.Goals as goal
 
 pub access_of-requires : goal.access_of-requires

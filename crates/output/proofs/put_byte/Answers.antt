@@ -3,7 +3,6 @@ use mathlib.Core.Path.{refl, sym}
 use lib.Seq.{set_out}
 use Rattle.output.specs.Output.{behind, written}
 use Rattle.output.proofs.Laws.{after_room, after_full}
-use borrow.Author.Rules.{rules}
 use Rattle.output.proofs.put_byte.Goals as goal
 
 pub returns-then-at-out : goal.returns-then-at-out

@@ -1,12 +1,10 @@
-use Prim.Native.Nat.{◌+◌, ◌-◌, ◌≤◌}
+use Prim.Native.Nat.{◌+◌, ◌-◌}
 use mathlib.Core.Path.{◌≡◌, refl, sym, ◌∙◌}
-use mathlib.Core.List.{[], ◌++◌, append-nil}
+use mathlib.Core.List.{[], append-nil}
 use native.Mathlib.Omega.{arith}
-use borrow.Author.Rules.{rules}
 use borrow.Author.Tests.{eq-eqb, ne_eqb}
-use lib.ListN.{length, take, drop, length-set, length-drop}
+use lib.ListN.{take, drop, length-set, length-drop}
 use lib.Seq.{take_all}
-use mathlib.Core.Logic.{⊎_elim}
 use Rattle.output.specs.Output.{decimal_digits, decimal}
 use Rattle.output.proofs.Laws.{digit_stored, digits_none, digits_full}
 use Rattle.output.proofs.put_decimal.Goals as goal

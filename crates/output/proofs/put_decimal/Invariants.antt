@@ -1,15 +1,9 @@
 -- Invariant: the digits of v that are left, and behind them those stored, are the digits of n.
-use Prim.Native.Nat.{◌+◌, ◌-◌, ◌≤◌}
-use mathlib.Core.Path.{◌≡◌, refl, sym, ◌∙◌}
-use mathlib.Core.List.{[], ◌++◌, append-nil}
-use native.Mathlib.Omega.{arith}
-use borrow.Author.Rules.{rules}
-use borrow.Author.Tests.{eq-eqb, ne_eqb}
-use lib.ListN.{length, take, drop, length-set, length-drop}
-use lib.Seq.{take_all}
-use mathlib.Core.Logic.{⊎_elim}
-use Rattle.output.specs.Output.{decimal_digits, decimal}
-use Rattle.output.proofs.Laws.{digit_stored, digits_none, digits_full}
+use Prim.Native.Nat.{◌≤◌}
+use mathlib.Core.Path.{◌≡◌}
+use mathlib.Core.List.{◌++◌}
+use lib.ListN.{length, drop}
+use Rattle.output.specs.Output.{decimal_digits}
 use Rattle.output.proofs.put_decimal.Given as goal
 
 abbrev pub invariant-loop-v : goal.invariant-loop-v

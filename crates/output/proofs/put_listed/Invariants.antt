@@ -1,14 +1,11 @@
 -- Invariant: writing the locks from n on behind what is written writes the whole list.
-use Prim.Native.Nat.{ℕ, suc, ◌+◌, ◌-◌, ◌≤◌}
-use mathlib.Core.Path.{◌≡◌, refl, ◌∙◌}
+use Prim.Native.Nat.{ℕ, ◌-◌, ◌≤◌}
+use mathlib.Core.Path.{◌≡◌}
 use mathlib.Core.List.{List}
-use native.Mathlib.Omega.{arith}
-use native.Mathlib.Numerals.{add-one}
-use borrow.Author.Rules.{rules}
 use lib.ListN.{length}
 use Rattle.frame.specs.Limits.{lock_count}
 use Rattle.output.specs.Output.{listed}
-use Rattle.output.proofs.Laws.{Put, put_none, put_more}
+use Rattle.output.proofs.Laws.{Put}
 use Rattle.output.proofs.put_listed.Given as goal
 
 abbrev pub invariant-loop-n : goal.invariant-loop-n

@@ -1,6 +1,5 @@
 -- The three cases of `lock_text`.
 use mathlib.Core.List.{◌++◌, append-nil}
-use borrow.Author.Rules.{rules}
 use borrow.Author.Tests.{eq-eqb, ne_eqb}
 use Rattle.output.specs.Output.{bytes, decimal, lock_text}
 use Rattle.output.proofs.Laws.{Put, put_none, put_more}

@@ -1,5 +1,4 @@
 -- The three cases of `locks_text`.
-use borrow.Author.Rules.{rules}
 use borrow.Author.Tests.{eq-eqb, ne_eqb}
 use Rattle.output.specs.Output.{bytes, locks_text}
 use Rattle.output.proofs.put_locks.Goals as goal

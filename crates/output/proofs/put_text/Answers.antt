@@ -1,12 +1,11 @@
-use Prim.Native.Nat.{◌+◌, ◌-◌, ◌≤◌}
+use Prim.Native.Nat.{◌+◌}
 use mathlib.Core.Path.{◌≡◌, refl, ◌∙◌}
 use mathlib.Core.List.{[], ◌∷◌, ◌++◌}
 use native.Mathlib.Omega.{arith}
 use native.Mathlib.Numerals.{add-one}
-use borrow.Author.Rules.{rules}
-use lib.ListN.{length, take, get_or}
+use lib.ListN.{take, get_or}
 use lib.Seq.{take_all, take-suc}
-use Rattle.output.proofs.Laws.{Put, put_none, put_more}
+use Rattle.output.proofs.Laws.{put_none, put_more}
 use Rattle.output.proofs.put_text.Goals as goal
 
 pub loop-i-init : goal.loop-i-init

@@ -1,5 +1,4 @@
 use borrow.Author.Tests.{lt-ltb, le-ltb}
-use borrow.Author.Rules.{rules}
 use Rattle.pass.proofs.earlier_of.Goals as goal
 
 pub returns-in_default-b : goal.returns-in_default-b

@@ -1,14 +1,9 @@
 -- Invariant: the earliest of all threads is that of the threads from k on and the least so far.
-use Prim.Native.Nat.{◌+◌, ◌-◌, ◌≤◌}
-use mathlib.Core.Path.{◌≡◌, refl, sym, ◌∙◌}
-use mathlib.Core.Logic.{⊎_elim}
-use native.Mathlib.Omega.{arith}
-use borrow.Author.Rules.{rules}
+use Prim.Native.Nat.{◌-◌, ◌≤◌}
+use mathlib.Core.Path.{◌≡◌}
 use Rattle.frame.specs.Limits.{thread_count}
 use Rattle.reply.specs.declared.Mark.TheVariants.{Absent}
-use lib.ListN.{get_or}
-use Rattle.pass.specs.Pass.{earlier, open_begin, first_open_from}
-use Rattle.pass.proofs.Open.{open_turn, open_end, closed_thread, open_thread}
+use Rattle.pass.specs.Pass.{first_open_from}
 use Rattle.pass.proofs.first_open.Given as goal
 
 abbrev pub invariant-loop-k : goal.invariant-loop-k

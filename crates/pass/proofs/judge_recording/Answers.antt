@@ -1,6 +1,5 @@
 use borrow.Author.Tests.{lt-ltb}
 use Rattle.pass.specs.Pass.{judgement, sets_left}
-use borrow.Author.Rules.{rules}
 use Rattle.pass.proofs.judge_recording.Goals as goal
 
 pub returns-then-words-gt-MOST : goal.returns-then-words-gt-MOST

@@ -1,11 +1,8 @@
-use Prim.Native.Nat.{◌-◌}
 use mathlib.Core.Path.{sym, ap, ◌∙◌}
 use native.Mathlib.Omega.{arith}
-use borrow.Author.Rules.{rules}
-use lib.ListN.{length}
 use Rattle.frame.proofs.Laws.{decoded_in_range}
 use Rattle.soundness.specs.Soundness.{Checked}
-use Rattle.pass.proofs.Turn.{Inv, starts, turn_end, turn_bad, turn_refused, turn_wrong, turn_next}
+use Rattle.pass.proofs.Turn.{starts, turn_end, turn_bad, turn_refused, turn_wrong, turn_next}
 use Rattle.pass.proofs.run.Goals as goal
 
 pub loop-i-init : goal.loop-i-init

@@ -1,12 +1,7 @@
 -- Each return and each turn is a law of proofs/Turn at the values that the code has there.
 use Prim.Native.Nat.{◌-◌}
-use mathlib.Core.Path.{sym, ap, ◌∙◌}
-use native.Mathlib.Omega.{arith}
-use borrow.Author.Rules.{rules}
 use lib.ListN.{length}
-use Rattle.frame.proofs.Laws.{decoded_in_range}
-use Rattle.soundness.specs.Soundness.{Checked}
-use Rattle.pass.proofs.Turn.{Inv, starts, turn_end, turn_bad, turn_refused, turn_wrong, turn_next}
+use Rattle.pass.proofs.Turn.{Inv}
 use Rattle.pass.proofs.run.Given as goal
 
 abbrev pub invariant-loop-i : goal.invariant-loop-i

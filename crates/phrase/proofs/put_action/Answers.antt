@@ -1,5 +1,4 @@
 -- One text for each case.
-use borrow.Author.Rules.{rules}
 use Rattle.output.specs.Output.{bytes}
 use Rattle.phrase.specs.Phrase.{action_text}
 use Rattle.phrase.proofs.put_action.Goals as goal

@@ -1,5 +1,4 @@
 -- A frame's action, or none.
-use borrow.Author.Rules.{rules}
 use Rattle.output.specs.Output.{bytes}
 use Rattle.phrase.specs.Phrase.{decoded_text}
 use Rattle.phrase.proofs.put_frame.Goals as goal

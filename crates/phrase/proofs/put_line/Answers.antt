@@ -1,5 +1,4 @@
 -- Three texts, one behind the other.
-use borrow.Author.Rules.{rules}
 use Rattle.output.specs.Output.{bytes}
 use Rattle.output.proofs.Laws.{put_more}
 use Rattle.phrase.specs.Phrase.{line_text}

@@ -1,5 +1,4 @@
 -- The number is written behind the text.
-use borrow.Author.Rules.{rules}
 use Rattle.output.proofs.Laws.{put_more}
 use Rattle.phrase.proofs.put_named.Goals as goal
 

@@ -1,5 +1,4 @@
 -- One case for each action.
-use borrow.Author.Rules.{rules}
 use Rattle.phrase.proofs.variable_of.Goals as goal
 
 pub returns-in_default : goal.returns-in_default

@@ -1,4 +1,3 @@
-use borrow.Author.Rules.{rules}
 use Rattle.quick.proofs.differ.Goals as goal
 
 pub returns : goal.returns

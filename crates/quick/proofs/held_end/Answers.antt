@@ -1,4 +1,3 @@
-use borrow.Author.Rules.{rules}
 use Rattle.quick.proofs.held_end.Goals as goal
 
 pub returns : goal.returns

@@ -1,5 +1,4 @@
 use borrow.Author.Tests.{le-leb, lt-leb}
-use borrow.Author.Rules.{rules}
 use Rattle.quick.proofs.owner_after.Goals as goal
 
 pub returns-then-op-le2 : goal.returns-then-op-le2

@@ -1,9 +1,6 @@
-use Prim.Native.Nat.{◌-◌}
 use mathlib.Core.Path.{refl, sym, subst}
 use native.Mathlib.Omega.{arith}
 use borrow.Author.Rules.{rules}
-use lib.ListN.{length}
-use Rattle.soundness.specs.Soundness.{state_of}
 use Rattle.quick.specs.Quick.{PassedTo}
 use Rattle.quick.proofs.Turn.{passed_more}
 use Rattle.quick.proofs.passed.Goals as goal

@@ -1,6 +1,6 @@
 -- Each test that fails leaves all as it was; where none does, `turn` says what the word does.
-use Prim.Native.Nat.{◌+◌, ◌%◌}
-use mathlib.Core.Path.{◌≡◌, sym, ◌∙◌}
+use Prim.Native.Nat.{◌%◌}
+use mathlib.Core.Path.{sym, ◌∙◌}
 use native.Mathlib.Omega.{arith}
 use borrow.Author.Tests.{eqb-true, not-false}
 use lib.ListN.{get_or}
@@ -8,7 +8,6 @@ use Rattle.frame.specs.Limits.{lock_count}
 use Rattle.frame.proofs.Laws.{apart}
 use Rattle.quick.specs.Quick.{picked}
 use Rattle.quick.proofs.Turn.{at_most_one, enough, turn}
-use borrow.Author.Rules.{rules}
 use Rattle.quick.proofs.passes.Goals as goal
 
 pub overflow_add-own : goal.overflow_add-own

@@ -1,5 +1,4 @@
 -- The sentence, filled in with what is known of the place.
-use borrow.Author.Rules.{rules}
 use Rattle.refusaltext.proofs.explain_refusal.Goals as goal
 
 pub returns : goal.returns

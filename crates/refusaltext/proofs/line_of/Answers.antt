@@ -1,7 +1,6 @@
 -- The number less 1, the number and 14, or 25.
 use borrow.Author.Tests.{eq-eqb, ne_eqb, lt-ltb, le-ltb}
 use Rattle.refusaltext.proofs.Sentences.{refusal_numbered}
-use borrow.Author.Rules.{rules}
 use Rattle.refusaltext.proofs.line_of.Goals as goal
 
 pub overflow_sub-result : goal.overflow_sub-result

@@ -4,7 +4,6 @@ use Rattle.output.specs.Output.{bytes}
 use Rattle.sentence.specs.Sentence.{known}
 use Rattle.textlines.proofs.Tables.{joined}
 use Rattle.refusaltext.proofs.Sentences.{refusal_line}
-use borrow.Author.Rules.{rules}
 use Rattle.refusaltext.proofs.say_refusal.Goals as goal
 
 pub returns : goal.returns

@@ -1,5 +1,4 @@
 -- The two cases of a decoded word.
-use borrow.Author.Rules.{rules}
 use Rattle.sentence.proofs.known.Goals as goal
 
 pub returns-in-Frame : goal.returns-in-Frame

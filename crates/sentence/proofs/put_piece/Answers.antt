@@ -1,6 +1,5 @@
 -- One case for each slot; any other byte stands for itself.
 use Rattle.std.proofs.Common.{◌≢◌, arith}
-use borrow.Author.Rules.{rules}
 use borrow.Author.Tests.{ne_eqb}
 use Rattle.sentence.specs.Sentence.{piece}
 use Rattle.sentence.proofs.put_piece.Goals as goal

@@ -1,5 +1,4 @@
 use borrow.Author.Tests.{eq-eqb, ne_eqb}
-use borrow.Author.Rules.{rules}
 use Rattle.serial.proofs.depth_by.Goals as goal
 
 pub returns-then-op-eq5 : goal.returns-then-op-eq5

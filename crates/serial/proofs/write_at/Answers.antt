@@ -6,7 +6,6 @@ use native.Mathlib.Omega.{arith}
 use lib.ListN.{length, take, drop, take-append-drop}
 use Rattle.laws.proofs.Written.{lent_fits, lent_part}
 use Rattle.serial.specs.Walk.{unit_of}
-use borrow.Author.Rules.{rules}
 use Rattle.serial.proofs.write_at.Goals as goal
 
 pub returns-in_default : goal.returns-in_default

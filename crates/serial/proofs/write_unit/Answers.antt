@@ -1,10 +1,7 @@
-use borrow.Author.Rules.{rules}
-use Prim.Native.Nat.{◌-◌}
 use native.Mathlib.Omega.{arith}
-use lib.ListN.{length}
 use Rattle.soundness.proofs.Laws.{sound_fits}
 use Rattle.laws.proofs.Written.{written_all, written_whole}
-use Rattle.serial.proofs.Units.{UnitInv, unit_begins, unit_ends, passes_over, has_room, copies, copies_last}
+use Rattle.serial.proofs.Units.{unit_begins, unit_ends, passes_over, has_room, copies, copies_last}
 use Rattle.serial.proofs.write_unit.Goals as goal
 
 pub loop-i-init : goal.loop-i-init

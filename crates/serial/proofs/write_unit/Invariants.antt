@@ -1,11 +1,7 @@
 -- Each turn is a law of proofs/Units at the values that the code has there.
-use borrow.Author.Rules.{rules}
 use Prim.Native.Nat.{◌-◌}
-use native.Mathlib.Omega.{arith}
 use lib.ListN.{length}
-use Rattle.soundness.proofs.Laws.{sound_fits}
-use Rattle.laws.proofs.Written.{written_all, written_whole}
-use Rattle.serial.proofs.Units.{UnitInv, unit_begins, unit_ends, passes_over, has_room, copies, copies_last}
+use Rattle.serial.proofs.Units.{UnitInv}
 use Rattle.serial.proofs.write_unit.Given as goal
 
 abbrev pub invariant-loop-i : goal.invariant-loop-i

@@ -2,7 +2,6 @@ use mathlib.Core.Path.{sym, ap, ◌∙◌}
 use borrow.Author.Tests.{lt-ltb}
 use Rattle.soundness.specs.Soundness.{Checked, start}
 use Rattle.soundness.proofs.Laws.{check_short}
-use borrow.Author.Rules.{rules}
 use Rattle.soundness.proofs.check.Goals as goal
 
 pub returns-then-words-gt-MOST : goal.returns-then-words-gt-MOST

@@ -1,10 +1,8 @@
-use Prim.Native.Nat.{◌-◌, ◌≤◌}
-use mathlib.Core.Path.{◌≡◌, refl, sym, ◌∙◌}
+use mathlib.Core.Path.{refl, sym, ◌∙◌}
 use native.Mathlib.Omega.{arith}
 use borrow.Author.Rules.{rules}
-use lib.ListN.{length, drop}
 use Rattle.frame.proofs.Laws.{decoded_in_range}
-use Rattle.soundness.specs.Soundness.{check_from, state_of}
+use Rattle.soundness.specs.Soundness.{state_of}
 use Rattle.soundness.proofs.Laws.{check_end, check_bad, check_fail, check_next}
 use Rattle.soundness.proofs.check_from.Goals as goal
 

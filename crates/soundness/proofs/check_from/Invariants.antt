@@ -1,12 +1,8 @@
 -- Invariant: the pass is that of going on from place i with the locks and blocks in the three arrays.
 use Prim.Native.Nat.{◌-◌, ◌≤◌}
-use mathlib.Core.Path.{◌≡◌, refl, sym, ◌∙◌}
-use native.Mathlib.Omega.{arith}
-use borrow.Author.Rules.{rules}
+use mathlib.Core.Path.{◌≡◌}
 use lib.ListN.{length, drop}
-use Rattle.frame.proofs.Laws.{decoded_in_range}
 use Rattle.soundness.specs.Soundness.{check_from, state_of}
-use Rattle.soundness.proofs.Laws.{check_end, check_bad, check_fail, check_next}
 use Rattle.soundness.proofs.check_from.Given as goal
 
 abbrev pub invariant-loop-i : goal.invariant-loop-i

@@ -1,5 +1,4 @@
 -- The reason that a frame which does not pass brings.
-use borrow.Author.Rules.{rules}
 use Rattle.soundness.proofs.outcome_refusal.Goals as goal
 
 pub returns-in-Bad : goal.returns-in-Bad

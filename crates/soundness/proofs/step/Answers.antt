@@ -1,6 +1,5 @@
 use borrow.Author.Tests.{eq-eqb, ne_eqb, le-leb, lt-leb}
 use Rattle.soundness.specs.Soundness.{step_action}
-use borrow.Author.Rules.{rules}
 use Rattle.soundness.proofs.step.Goals as goal
 
 pub bounds-owners-k : goal.bounds-owners-k

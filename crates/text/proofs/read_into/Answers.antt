@@ -1,11 +1,9 @@
-use Prim.Native.Nat.{◌+◌, ◌-◌, ◌≤◌}
+use Prim.Native.Nat.{◌+◌, ◌-◌}
 use mathlib.Core.Path.{◌≡◌, refl, sym, ◌∙◌}
-use mathlib.Core.List.{◌++◌}
 use native.Mathlib.Omega.{arith}
-use borrow.Author.Rules.{rules}
-use lib.ListN.{length, drop, length-set}
+use lib.ListN.{length-set}
 use Rattle.frame.specs.Limits.{most_frames}
-use Rattle.text.specs.Text.{scan_from, words_to, word_at}
+use Rattle.text.specs.Text.{words_to, word_at}
 use Rattle.text.proofs.Laws.{scan_done, scan_step, full_reached, words_turn}
 use Rattle.text.proofs.read_into.Goals as goal
 

@@ -1,13 +1,10 @@
 -- Invariant: scanning the whole text is scanning it from line i on, and the words of the first i lines are written.
-use Prim.Native.Nat.{◌+◌, ◌-◌, ◌≤◌}
-use mathlib.Core.Path.{◌≡◌, refl, sym, ◌∙◌}
+use Prim.Native.Nat.{◌-◌, ◌≤◌}
+use mathlib.Core.Path.{◌≡◌}
 use mathlib.Core.List.{◌++◌}
-use native.Mathlib.Omega.{arith}
-use borrow.Author.Rules.{rules}
-use lib.ListN.{length, drop, length-set}
+use lib.ListN.{length, drop}
 use Rattle.frame.specs.Limits.{most_frames}
-use Rattle.text.specs.Text.{scan_from, words_to, word_at}
-use Rattle.text.proofs.Laws.{scan_done, scan_step, full_reached, words_turn}
+use Rattle.text.specs.Text.{scan_from, words_to}
 use Rattle.text.proofs.read_into.Given as goal
 
 abbrev pub invariant-loop-i : goal.invariant-loop-i

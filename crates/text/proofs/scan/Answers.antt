@@ -1,9 +1,7 @@
-use Prim.Native.Nat.{◌+◌, ◌-◌, ◌≤◌}
+use Prim.Native.Nat.{◌+◌, ◌-◌}
 use mathlib.Core.Path.{◌≡◌, refl, sym, ◌∙◌}
 use native.Mathlib.Omega.{arith}
-use borrow.Author.Rules.{rules}
 use Rattle.frame.specs.Limits.{most_frames}
-use Rattle.text.specs.Text.{scan_from}
 use Rattle.text.proofs.Laws.{scan_done, scan_step}
 use Rattle.text.proofs.scan.Goals as goal
 

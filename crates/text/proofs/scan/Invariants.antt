@@ -1,11 +1,8 @@
 -- Invariant: scanning the whole text is scanning it from line i on, with most_frames - i lines allowed.
-use Prim.Native.Nat.{◌+◌, ◌-◌, ◌≤◌}
-use mathlib.Core.Path.{◌≡◌, refl, sym, ◌∙◌}
-use native.Mathlib.Omega.{arith}
-use borrow.Author.Rules.{rules}
+use Prim.Native.Nat.{◌-◌, ◌≤◌}
+use mathlib.Core.Path.{◌≡◌}
 use Rattle.frame.specs.Limits.{most_frames}
 use Rattle.text.specs.Text.{scan_from}
-use Rattle.text.proofs.Laws.{scan_done, scan_step}
 use Rattle.text.proofs.scan.Given as goal
 
 abbrev pub invariant-loop-i : goal.invariant-loop-i

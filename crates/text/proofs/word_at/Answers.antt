@@ -1,7 +1,6 @@
 -- The word that `read_line` answers.
 use mathlib.Core.Path.{sym, ◌∙◌}
 use Rattle.text.specs.Text.{word_at}
-use borrow.Author.Rules.{rules}
 use Rattle.text.proofs.word_at.Goals as goal
 
 pub returns-in_default : goal.returns-in_default

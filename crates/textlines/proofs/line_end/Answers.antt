@@ -1,9 +1,5 @@
-use Prim.Native.Nat.{◌+◌, ◌-◌, ◌≤◌}
-use mathlib.Core.Path.{◌≡◌, refl}
+use mathlib.Core.Path.{refl}
 use native.Mathlib.Omega.{arith}
-use borrow.Author.Rules.{rules}
-use lib.ListN.{length, drop}
-use Rattle.textlines.specs.Lines.{line_length}
 use Rattle.textlines.proofs.Lines.{ends, goes_on, no_line}
 use Rattle.textlines.proofs.line_end.Goals as goal
 

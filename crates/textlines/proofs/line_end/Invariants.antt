@@ -1,11 +1,8 @@
 -- Invariant: what is left of the line decides.
 use Prim.Native.Nat.{◌+◌, ◌-◌, ◌≤◌}
-use mathlib.Core.Path.{◌≡◌, refl}
-use native.Mathlib.Omega.{arith}
-use borrow.Author.Rules.{rules}
+use mathlib.Core.Path.{◌≡◌}
 use lib.ListN.{length, drop}
 use Rattle.textlines.specs.Lines.{line_length}
-use Rattle.textlines.proofs.Lines.{ends, goes_on, no_line}
 use Rattle.textlines.proofs.line_end.Given as goal
 
 abbrev pub invariant-loop-e : goal.invariant-loop-e

@@ -1,8 +1,6 @@
-use Prim.Native.Nat.{◌-◌, ◌≤◌}
 use mathlib.Core.Path.{◌≡◌, refl, sym, ap, ◌∙◌}
 use native.Mathlib.Omega.{arith}
-use borrow.Author.Rules.{rules}
-use lib.ListN.{length, drop}
+use lib.ListN.{drop}
 use Rattle.textlines.specs.Lines.{nth_line}
 use Rattle.textlines.proofs.Lines.{within, next_line, first_line}
 use Rattle.textlines.proofs.nth_line.Goals as goal

@@ -1,11 +1,8 @@
 -- Invariant: line k of what is left is line n of the text.
-use Prim.Native.Nat.{◌-◌, ◌≤◌}
-use mathlib.Core.Path.{◌≡◌, refl, sym, ap, ◌∙◌}
-use native.Mathlib.Omega.{arith}
-use borrow.Author.Rules.{rules}
+use Prim.Native.Nat.{◌≤◌}
+use mathlib.Core.Path.{◌≡◌}
 use lib.ListN.{length, drop}
 use Rattle.textlines.specs.Lines.{nth_line}
-use Rattle.textlines.proofs.Lines.{within, next_line, first_line}
 use Rattle.textlines.proofs.nth_line.Given as goal
 
 abbrev pub invariant-loop-k : goal.invariant-loop-k

@@ -1,5 +1,4 @@
 use borrow.Author.Tests.{lt-ltb, le-ltb}
-use borrow.Author.Rules.{rules}
 use Rattle.trace.proofs.trace_check.Goals as goal
 
 pub returns-then-line-lt-LINE : goal.returns-then-line-lt-LINE

@@ -5,7 +5,6 @@ use Rattle.guards.specs.declared.Judgement.TheVariants.{Declared}
 use Rattle.reply.specs.declared.Verdict.TheVariants.{Reducible}
 use Rattle.verdict.proofs.Laws.{verdict_fits}
 use Rattle.trace.proofs.Laws.{frames_whole}
-use borrow.Author.Rules.{rules}
 use Rattle.trace.proofs.trace_declared.Goals as goal
 
 pub returns-then-line-lt-LINE : goal.returns-then-line-lt-LINE

@@ -1,6 +1,5 @@
 use mathlib.Core.Path.{sym, ap, ◌∙◌}
 use Rattle.guards.specs.declared.GuardsRead.{GuardsRead}
-use borrow.Author.Rules.{rules}
 use Rattle.trace.proofs.trace_guards.Goals as goal
 
 pub returns-in-Lines : goal.returns-in-Lines

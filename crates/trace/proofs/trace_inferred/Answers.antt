@@ -4,7 +4,6 @@ use borrow.Author.Tests.{lt-ltb, le-ltb}
 use Rattle.reply.specs.declared.Verdict.TheVariants.{Reducible}
 use Rattle.verdict.proofs.Laws.{inferred_fits}
 use Rattle.trace.proofs.Laws.{frames_whole}
-use borrow.Author.Rules.{rules}
 use Rattle.trace.proofs.trace_inferred.Goals as goal
 
 pub returns-then-room-lt-LINE : goal.returns-then-room-lt-LINE

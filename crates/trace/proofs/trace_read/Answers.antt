@@ -1,5 +1,4 @@
 use mathlib.Core.Path.{sym, ◌∙◌}
-use borrow.Author.Rules.{rules}
 use Rattle.trace.proofs.trace_read.Goals as goal
 
 pub returns-in-Lines : goal.returns-in-Lines

@@ -1,7 +1,6 @@
 -- The six numbers are those of the fields, or left as they were.
 use mathlib.Core.Path.{sym, ap, ◌∙◌}
 use Rattle.tracetext.specs.Texts.{fields_answer, left, kind_of, frame_of, thread_of, begin_of, commit_of, locks_of}
-use borrow.Author.Rules.{rules}
 use Rattle.tracetext.proofs.trace_line_read.Goals as goal
 
 pub returns-in-Read : goal.returns-in-Read

@@ -1,7 +1,6 @@
 -- The reply as one number; the text is the writer's.
 use mathlib.Core.Path.{sym, ap, ◌∙◌}
 use Rattle.tracetext.specs.Texts.{write_answer}
-use borrow.Author.Rules.{rules}
 use Rattle.tracetext.proofs.trace_write.Goals as goal
 
 pub returns-in-Written : goal.returns-in-Written

@@ -1,7 +1,6 @@
 -- Each return is a law of proofs/Held at the values that the code has there.
 use mathlib.Core.Path.{refl, ◌∙◌}
 use Rattle.turn.proofs.Held.{frame_held, turn_refused, turn_judged}
-use borrow.Author.Rules.{rules}
 use Rattle.turn.proofs.judge_frame.Goals as goal
 
 pub returns-in_default : goal.returns-in_default

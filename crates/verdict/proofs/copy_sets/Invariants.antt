@@ -1,13 +1,9 @@
 -- Invariant: the first i entries are copied, and the rest is as it was.
 use Prim.Native.Nat.{◌-◌, ◌≤◌}
-use mathlib.Core.Path.{◌≡◌, refl}
+use mathlib.Core.Path.{◌≡◌}
 use mathlib.Core.List.{◌++◌}
-use native.Mathlib.Omega.{arith}
-use borrow.Author.Rules.{rules}
-use lib.ListN.{length, take, drop, length-set}
-use lib.Seq.{take_all}
+use lib.ListN.{length, take, drop}
 use Rattle.frame.specs.Limits.{variable_count}
-use Rattle.laws.proofs.Lists.{copied_next}
 use Rattle.verdict.proofs.copy_sets.Given as goal
 
 abbrev pub invariant-loop-i : goal.invariant-loop-i

@@ -4,7 +4,6 @@ use Rattle.guards.specs.Guards.{inferred_guards}
 use Rattle.pass.proofs.Judgement.{judgement_length, judged_left}
 use Rattle.pass.specs.Pass.{full_sets}
 use Rattle.verdict.proofs.Laws.{refused_reply, refused_sets, short_reply, short_sets, judged_reply, judged_sets}
-use borrow.Author.Rules.{rules}
 use Rattle.verdict.proofs.inferred.Goals as goal
 
 pub returns-in_default : goal.returns-in_default

@@ -2,7 +2,6 @@ use mathlib.Core.Path.{sym, ap, ◌∙◌}
 use Rattle.guards.specs.declared.GuardsRead.{GuardsRead}
 use Rattle.pass.specs.Pass.{full_sets}
 use Rattle.verdict.specs.Verdict.{verdict_under}
-use borrow.Author.Rules.{rules}
 use Rattle.verdict.proofs.judge.Goals as goal
 
 pub returns-in_default : goal.returns-in_default

@@ -1,6 +1,5 @@
 -- One sentence for each case.
 use Rattle.output.specs.Output.{bytes}
-use borrow.Author.Rules.{rules}
 use Rattle.violationtext.proofs.say_block.Goals as goal
 
 pub returns-then-known : goal.returns-then-known

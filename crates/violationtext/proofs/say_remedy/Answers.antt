@@ -1,6 +1,5 @@
 -- The line of the kind's number is its sentence.
 use mathlib.Core.Path.{sym}
-use borrow.Author.Rules.{rules}
 use Rattle.output.specs.Output.{bytes}
 use Rattle.textlines.proofs.Tables.{joined}
 use Rattle.violationtext.proofs.Sentences.{kind_numbered, remedy_line}

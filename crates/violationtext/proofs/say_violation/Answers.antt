@@ -1,6 +1,5 @@
 -- Five sentences, one behind the other.
 use Rattle.output.proofs.Laws.{put_more}
-use borrow.Author.Rules.{rules}
 use Rattle.violationtext.proofs.say_violation.Goals as goal
 
 pub returns : goal.returns

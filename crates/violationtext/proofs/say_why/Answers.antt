@@ -3,7 +3,6 @@ use mathlib.Core.Path.{sym}
 use Rattle.output.specs.Output.{bytes}
 use Rattle.textlines.proofs.Tables.{joined}
 use Rattle.violationtext.proofs.Sentences.{why_line}
-use borrow.Author.Rules.{rules}
 use Rattle.violationtext.proofs.say_why.Goals as goal
 
 pub returns : goal.returns

@@ -1,7 +1,6 @@
 -- The kind's number less 1, or it and 3.
 use native.Mathlib.Omega.{arith}
 use Rattle.violationtext.proofs.Sentences.{kind_numbered, kind_below}
-use borrow.Author.Rules.{rules}
 use Rattle.violationtext.proofs.why_line.Goals as goal
 
 pub overflow_sub-result : goal.overflow_sub-result

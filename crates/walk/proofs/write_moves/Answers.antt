@@ -1,11 +1,8 @@
-use borrow.Author.Rules.{rules}
-use Prim.Native.Nat.{◌-◌}
 use mathlib.Core.Path.{refl, sym, ◌∙◌}
 use native.Mathlib.Omega.{arith}
-use lib.ListN.{length}
 use Rattle.frame.proofs.Laws.{decoded_in_range}
 use Rattle.soundness.proofs.Laws.{sound_fits, sound_not_bad}
-use Rattle.walk.proofs.Walks.{MovesInv, moves_begin, moves_done, counts_fit, depths_fit, place_room, moves_next}
+use Rattle.walk.proofs.Walks.{moves_begin, moves_done, counts_fit, depths_fit, place_room, moves_next}
 use Rattle.walk.proofs.write_moves.Goals as goal
 
 pub loop-p-init : goal.loop-p-init

@@ -1,12 +1,9 @@
-use borrow.Author.Rules.{rules}
-use Prim.Native.Nat.{◌-◌}
 use mathlib.Core.Path.{refl, sym, ◌∙◌}
 use native.Mathlib.Omega.{arith}
-use lib.ListN.{length}
 use Rattle.laws.proofs.Written.{written_whole}
 use Rattle.frame.proofs.Laws.{decoded_in_range}
 use Rattle.soundness.proofs.Laws.{sound_fits, sound_not_bad}
-use Rattle.walk.proofs.Walks.{OrderInv, order_begins, order_done, counts_fit, depths_fit, unit_room, order_next}
+use Rattle.walk.proofs.Walks.{order_begins, order_done, counts_fit, depths_fit, unit_room, order_next}
 use Rattle.walk.proofs.write_order.Goals as goal
 
 pub loop-i-init : goal.loop-i-init

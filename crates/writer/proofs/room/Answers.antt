@@ -1,6 +1,5 @@
 -- The tests in the order of `room_reply`; nothing is added to the place.
 use borrow.Author.Tests.{lt-ltb, le-ltb}
-use borrow.Author.Rules.{rules}
 use Rattle.writer.proofs.room.Goals as goal
 
 pub returns-then-size-place : goal.returns-then-size-place

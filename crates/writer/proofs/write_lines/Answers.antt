@@ -1,9 +1,7 @@
-use Prim.Native.Nat.{◌+◌, ◌-◌, ◌*◌, ◌≤◌}
-use mathlib.Core.Path.{◌≡◌, refl, sym, ◌∙◌}
+use mathlib.Core.Path.{refl, sym, ◌∙◌}
 use native.Mathlib.Omega.{arith}
 use borrow.Author.Rules.{rules}
-use lib.ListN.{length}
-use Rattle.writer.proofs.Lines.{left, left_all, line_more, lines_end}
+use Rattle.writer.proofs.Lines.{left_all, line_more, lines_end}
 use Rattle.writer.proofs.write_lines.Goals as goal
 
 pub loop-i-init : goal.loop-i-init

@@ -1,10 +1,8 @@
 -- Invariant: the lines that are left, pasted into the text as it is, give what is to be written; each place follows from the number of lines.
 use Prim.Native.Nat.{◌+◌, ◌-◌, ◌*◌, ◌≤◌}
-use mathlib.Core.Path.{◌≡◌, refl, sym, ◌∙◌}
-use native.Mathlib.Omega.{arith}
-use borrow.Author.Rules.{rules}
+use mathlib.Core.Path.{◌≡◌}
 use lib.ListN.{length}
-use Rattle.writer.proofs.Lines.{left, left_all, line_more, lines_end}
+use Rattle.writer.proofs.Lines.{left}
 use Rattle.writer.proofs.write_lines.Given as goal
 
 abbrev pub invariant-loop-i : goal.invariant-loop-i

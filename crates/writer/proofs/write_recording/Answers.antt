@@ -2,7 +2,6 @@
 use mathlib.Core.Path.{sym, ◌∙◌}
 use Rattle.soundness.proofs.Laws.{sound_fits}
 use Rattle.writer.proofs.Reply.{refused_after, room_for, written_after, check_refused}
-use borrow.Author.Rules.{rules}
 use Rattle.writer.proofs.write_recording.Goals as goal
 
 pub room-r-requires : goal.room-r-requires
