@@ -10,7 +10,7 @@ help:
 	@echo "make install    the tool, the library and their pages below PREFIX=$(PREFIX); seconds, builds nothing"
 	@echo "make uninstall  remove what 'make install' put there, with the same PREFIX, LIBDIR and DESTDIR; seconds"
 	@echo "make dist       target/gambozuri-$$(cat VERSION)-x86_64-linux.tar.gz, a built copy that needs no toolchain; seconds, builds nothing"
-	@echo "make test       all tests, from nothing: the proofs, then what runs against the archives and programs; about 9 minutes"
+	@echo "make test       all tests: the proofs, then what runs against the archives and programs; minutes where rt has kept the proofs, longer from nothing"
 	@echo "make speed      the benchmark against plain Rust; some minutes"
 	@echo "make lines      lines of code, definitions and proofs of each crate; seconds"
 	@echo "make clean      remove what was built"
@@ -23,7 +23,7 @@ cargo-is-there:
 test: rt-is-there cargo-is-there
 	@tests/gate
 lib: rt-is-there
-	@packaging/prove --archives trace traceorder tracetext tracesay
+	@packaging/prove trace_c traceorder_c tracetext_c tracesay_c
 	@packaging/library target/staticlib target/lib
 tool: rt-is-there cargo-is-there lib
 	@packaging/tool
@@ -36,5 +36,5 @@ lines:
 dist:
 	@packaging/dist
 clean:
-	@rm -rf target
+	@rm -rf target crates/*/out
 include packaging/install.mk
