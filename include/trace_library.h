@@ -37,7 +37,7 @@ uint64_t trace_read(const uint8_t *text, size_t text_len, uint32_t *words, size_
  * 1023 or lock above 63; 12 variable already named.
  * Stack: at most TRACE_STACK_GUARDS bytes.
  */
-#define TRACE_STACK_GUARDS 4608
+#define TRACE_STACK_GUARDS 8704
 uint64_t trace_guards(const uint8_t *list, size_t list_len);
 
 /*
@@ -51,7 +51,7 @@ uint64_t trace_guards(const uint8_t *list, size_t list_len);
  * of the list as well (kind 0x81, 0x8B, 0x8C, frame = line of the list). Only 17 leaves it.
  * Stack: at most TRACE_STACK_DECLARED bytes.
  */
-#define TRACE_STACK_DECLARED 12800
+#define TRACE_STACK_DECLARED 16896
 uint8_t trace_declared(const uint8_t *list, size_t list_len, const uint32_t *words,
                        size_t words_len, uint8_t *line, size_t line_len);
 
@@ -145,7 +145,7 @@ uint64_t trace_moves_inferred(const uint32_t *words, size_t words_len, int32_t *
  * nothing.
  * Stack: at most TRACE_STACK_COMMITS_DECLARED bytes.
  */
-#define TRACE_STACK_COMMITS_DECLARED 6144
+#define TRACE_STACK_COMMITS_DECLARED 7168
 uint64_t trace_commits_declared(const uint8_t *list, size_t list_len, const uint32_t *words,
                                 size_t words_len, uint32_t *commits, size_t commits_len);
 
@@ -154,7 +154,7 @@ uint64_t trace_commits_declared(const uint8_t *list, size_t list_len, const uint
  * trace_commits_declared, without 1, 11 and 12.
  * Stack: at most TRACE_STACK_COMMITS_INFERRED bytes.
  */
-#define TRACE_STACK_COMMITS_INFERRED 6144
+#define TRACE_STACK_COMMITS_INFERRED 7168
 uint64_t trace_commits_inferred(const uint32_t *words, size_t words_len, uint32_t *commits,
                                 size_t commits_len);
 
@@ -211,7 +211,7 @@ uint64_t trace_line_write(uint8_t kind, uint16_t frame, uint8_t thread, uint16_t
  * to be none, by refusal 18. Each line of the text ends with LF.
  * Stack: at most TRACE_STACK_SAY_VERDICT bytes.
  */
-#define TRACE_STACK_SAY_VERDICT 9216
+#define TRACE_STACK_SAY_VERDICT 5120
 size_t trace_say_verdict(const uint8_t *line, size_t line_len, const uint32_t *words,
                          size_t words_len, uint8_t *out, size_t out_len);
 
@@ -233,7 +233,7 @@ enum trace_source {
  * said to be one. The text ends with LF.
  * Stack: at most TRACE_STACK_SAY_REFUSAL bytes.
  */
-#define TRACE_STACK_SAY_REFUSAL 8192
+#define TRACE_STACK_SAY_REFUSAL 5120
 size_t trace_say_refusal(uint64_t reply, uint32_t source, const uint8_t *text, size_t text_len,
                          const uint32_t *words, size_t words_len, uint8_t *out, size_t out_len);
 
@@ -241,7 +241,7 @@ size_t trace_say_refusal(uint64_t reply, uint32_t source, const uint8_t *text, s
  * A kept verdict line in words, as far as the line alone tells it: trace_say_verdict without words.
  * Stack: at most TRACE_STACK_SAY_LINE bytes.
  */
-#define TRACE_STACK_SAY_LINE 9216
+#define TRACE_STACK_SAY_LINE 5120
 size_t trace_say_line(const uint8_t *line, size_t line_len, uint8_t *out, size_t out_len);
 
 /*

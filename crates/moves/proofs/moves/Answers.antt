@@ -2,7 +2,6 @@ use mathlib.Core.Path.{sym, ap, ◌∙◌}
 use Rattle.guards.specs.declared.GuardsRead.{GuardsRead}
 use Rattle.order.specs.Order.{reply_under}
 use Rattle.moves.specs.Moves.{moves_out, moves_out_under}
-use borrow.Author.Rules.{rules}
 use Rattle.moves.proofs.moves.Goals as goal
 
 pub returns-in_default : goal.returns-in_default

@@ -6,7 +6,6 @@ use Rattle.pass.proofs.Judgement.{judgement_sound}
 use Rattle.order.proofs.Laws.{accepted}
 use Rattle.moves.specs.Moves.{moves_out}
 use Rattle.moves.proofs.Laws.{walk_short, walk_moves}
-use borrow.Author.Rules.{rules}
 use Rattle.moves.proofs.under_guards.Goals as goal
 
 pub returns-in_default : goal.returns-in_default

@@ -4,7 +4,6 @@ use Rattle.reply.specs.declared.Verdict.TheVariants.{Reducible}
 use Rattle.pass.specs.Pass.{full_sets, judgement}
 use Rattle.pass.proofs.Judgement.{judgement_fits}
 use Rattle.order.proofs.Laws.{says_reducible, says_irreducible, not_reducible, still_open, no_room, is_written}
-use borrow.Author.Rules.{rules}
 use Rattle.order.proofs.check.Goals as goal
 
 pub returns-then-is_irreducible : goal.returns-then-is_irreducible

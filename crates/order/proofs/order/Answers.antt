@@ -1,7 +1,6 @@
 use mathlib.Core.Path.{sym, ap, ◌∙◌}
 use Rattle.guards.specs.declared.GuardsRead.{GuardsRead}
 use Rattle.order.specs.Order.{reply_under, out_under, order_out}
-use borrow.Author.Rules.{rules}
 use Rattle.order.proofs.order.Goals as goal
 
 pub returns-in_default : goal.returns-in_default

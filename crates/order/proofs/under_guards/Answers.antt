@@ -6,7 +6,6 @@ use Rattle.pass.proofs.Judgement.{judgement_sound}
 use Rattle.orderlaws.proofs.Order.{walk_is_order, order_length}
 use Rattle.order.specs.Order.{order_out}
 use Rattle.order.proofs.Laws.{accepted}
-use borrow.Author.Rules.{rules}
 use Rattle.order.proofs.under_guards.Goals as goal
 
 pub returns-in_default : goal.returns-in_default

@@ -1,5 +1,4 @@
 -- The parts of the reply, and what is named.
-use borrow.Author.Rules.{rules}
 use Rattle.refusalreport.proofs.refusal_report.Goals as goal
 
 pub returns : goal.returns

@@ -1,7 +1,6 @@
 -- No refusal, one that this check does not give, or one of the table.
 use borrow.Author.Tests.{eq-eqb, ne_eqb, lt-ltb, le-ltb}
 use Rattle.output.proofs.Laws.{put_none}
-use borrow.Author.Rules.{rules}
 use Rattle.refusalreport.proofs.say_numbered.Goals as goal
 
 pub returns-then-number-eq0 : goal.returns-then-number-eq0

@@ -1,4 +1,3 @@
-use borrow.Author.Rules.{rules}
 use Rattle.traceorder.proofs.pack_order.Goals as goal
 
 pub returns-in-Refused : goal.returns-in-Refused

@@ -1,6 +1,5 @@
 use native.Mathlib.Omega.{arith}
 use Rattle.frame.proofs.Laws.{number_small}
-use borrow.Author.Rules.{rules}
 use Rattle.traceorder.proofs.pack_side.Goals as goal
 
 pub overflow_add-result : goal.overflow_add-result

@@ -1,4 +1,3 @@
-use borrow.Author.Rules.{rules}
 use Rattle.traceorder.proofs.trace_commits_inferred.Goals as goal
 
 pub returns : goal.returns

@@ -1,5 +1,4 @@
 use mathlib.Core.Path.{sym, ◌∙◌}
-use borrow.Author.Rules.{rules}
 use Rattle.traceorder.proofs.trace_equal.Goals as goal
 
 pub returns-in-Equal : goal.returns-in-Equal

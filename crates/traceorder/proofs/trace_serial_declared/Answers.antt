@@ -1,4 +1,3 @@
-use borrow.Author.Rules.{rules}
 use Rattle.traceorder.proofs.trace_serial_declared.Goals as goal
 
 pub returns : goal.returns

@@ -5,7 +5,6 @@ use lib.Seq.{length-take-le}
 use Rattle.linereport.specs.LineReport.{line_report}
 use Rattle.fits.proofs.Answers.{texts_fit}
 use Rattle.tracesay.proofs.Laws.{whole}
-use borrow.Author.Rules.{rules}
 use Rattle.tracesay.proofs.trace_say_line.Goals as goal
 
 pub slice_bounds-said-end : goal.slice_bounds-said-end

@@ -2,7 +2,6 @@
 use mathlib.Core.Path.{sym, ap, ◌∙◌}
 use Rattle.guards.specs.declared.GuardsRead.{GuardsRead}
 use Rattle.unitcommits.specs.UnitCommits.{commits_under, commits_out_under}
-use borrow.Author.Rules.{rules}
 use Rattle.unitcommits.proofs.commits.Goals as goal
 
 pub returns-in_default : goal.returns-in_default
