@@ -28,7 +28,7 @@ use Rattle.guards.specs.Guards.{guard_of, guard_variable, guard_lock, lines, sto
 use Rattle.guards.specs.Listed.{Listed, ListsAreNeverTooLong}
 use Rattle.guards.specs.declared.Guard.TheVariants.{Locked, Unprotected}
 use Rattle.guards.specs.declared.GuardLine.{GuardLine}
-use Rattle.guards.specs.declared.GuardLine.TheVariants as guard_line_lem
+use Rattle.guards.specs.declared.GuardLine.TheVariants as guard_lines
 use Rattle.guards.specs.declared.GuardsRead.{GuardsRead}
 use Rattle.guards.specs.declared.GuardsReply.TheVariants as reply
 
@@ -53,16 +53,16 @@ pub guards_turn : (s : List ℕ) (i : ℕ) (g : List ℕ) {x : GuardsRead} {l : 
     → l ≡ line_of s (9 * i) → o ≡ guard_line l → x ≡ on_guard_line o i g (λ g'. guards_from (most_frames - (i + 1)) s (i + 1) g')
 guards_turn s i g e h more p q = e ∙ guards_step s i g (most_frames - i) (most_frames - (i + 1)) (omega arith) more ∙ rw (q, p)
 
-same_variable : (v w : Variable) (k l : Lock) → guard_line_lem.Names w l ≡ guard_line_lem.Names v k → v ≡ w
+same_variable : (v w : Variable) (k l : Lock) → guard_lines.Names w l ≡ guard_lines.Names v k → v ≡ w
 same_variable v w k l e = cc
 
 -- a variable that a line names has an entry in the table
-pub names_variable : (l : Line) (v : Variable) (k : Lock) → guard_line l ≡ guard_line_lem.Names v k → v.0 < variable_count
+pub names_variable : (l : Line) (v : Variable) (k : Lock) → guard_line l ≡ guard_lines.Names v k → v.0 < variable_count
 names_variable (line.Word w) v k e = go (leb variable_count (guard_variable w)) refl (leb lock_count (guard_lock w)) refl
   where
     go : (a : Bool) → leb variable_count (guard_variable w) ≡ a → (b : Bool) → leb lock_count (guard_lock w) ≡ b → v.0 < variable_count
-    go true x b y = let f : guard_line_lem.Bad refusal.GuardRange ≡ guard_line_lem.Names v k = rw x at e in never (cc)
-    go false x true y = let f : guard_line_lem.Bad refusal.GuardRange ≡ guard_line_lem.Names v k = rw (x, y) at e in never (cc)
+    go true x b y = let f : guard_lines.Bad refusal.GuardRange ≡ guard_lines.Names v k = rw x at e in never (cc)
+    go false x true y = let f : guard_lines.Bad refusal.GuardRange ≡ guard_lines.Names v k = rw (x, y) at e in never (cc)
     go false x false y =
         rw (same_variable v _ k _ (rw (x, y) at e)) (omega (arith, leb-false variable_count (guard_variable w) x))
 names_variable line.Malformed v k e = never (cc)

@@ -16,7 +16,7 @@ use Rattle.guards.specs.declared.Guard.{Guard}
 use Rattle.guards.specs.declared.Guard.TheVariants.{Locked, Unprotected, Inferred}
 use Rattle.guards.specs.declared.GuardsReply.TheVariants as reply
 use Rattle.guards.specs.declared.GuardLine.{GuardLine}
-use Rattle.guards.specs.declared.GuardLine.TheVariants as guard_line_lem
+use Rattle.guards.specs.declared.GuardLine.TheVariants as guard_lines
 use Rattle.guards.specs.declared.GuardsRead.{GuardsRead}
 
 -- The codes of a variable that is unprotected, and of one whose guard is inferred; below them, a lock is its own code.
@@ -47,17 +47,17 @@ stopped r p g = record { reply = reply.Refused (refused_at r p); table = g }
 -- "11: variable above 1023 or lock above 63".
 abbrev pub guard_line : Line → GuardLine
 guard_line (line.Word w) =
-    cond (leb variable_count (guard_variable w)) (guard_line_lem.Bad refusal.GuardRange)
-    (cond (leb lock_count (guard_lock w)) (guard_line_lem.Bad refusal.GuardRange)
-    (guard_line_lem.Names (record { 0 = guard_variable w }) (record { 0 = guard_lock w })))
-guard_line line.Malformed = guard_line_lem.Bad refusal.Line
+    cond (leb variable_count (guard_variable w)) (guard_lines.Bad refusal.GuardRange)
+    (cond (leb lock_count (guard_lock w)) (guard_lines.Bad refusal.GuardRange)
+    (guard_lines.Names (record { 0 = guard_variable w }) (record { 0 = guard_lock w })))
+guard_line line.Malformed = guard_lines.Bad refusal.Line
 
 -- "and 11 before 12": line i, with the table g of the lines before it. "12: variable already named".
 -- `more` takes the table with the line's guard.
 abbrev pub on_guard_line : GuardLine → ℕ → List ℕ → (List ℕ → GuardsRead) → GuardsRead
-on_guard_line (guard_line_lem.Names v l) i g more =
+on_guard_line (guard_lines.Names v l) i g more =
     cond (eqb (get_or g v.0 0) unprotected_code) (more (set g v.0 l.0)) (stopped refusal.GuardRepeated i g)
-on_guard_line (guard_line_lem.Bad r) i g more = stopped r i g
+on_guard_line (guard_lines.Bad r) i g more = stopped r i g
 
 -- "guard list, line by line": the lines from line i on, of which k more may come, with the table g of the lines before.
 -- Where a line is refused, the table is the one so far; callers do not use it. `ListsAreNeverTooLong` says that k never runs out.

@@ -11,7 +11,7 @@ use Rattle.reply.specs.declared.Mark.TheVariants as mark
 use Rattle.reply.specs.declared.Violation.{Violation}
 use Rattle.line.specs.declared.Fields.{Fields}
 use Rattle.line.specs.declared.LineMark.{LineMark}
-use Rattle.line.specs.declared.LineMark.TheVariants as line_mark_lem
+use Rattle.line.specs.declared.LineMark.TheVariants as line_marks
 use Rattle.kept.specs.declared.Kept.{Kept}
 use Rattle.kept.specs.declared.Kept.TheVariants as kept
 
@@ -39,8 +39,8 @@ kind_by n = get_or kinds (n - 1) kind.GuardNotHeld
 
 -- A begin or a commit of a line, in a violation.
 abbrev pub mark_of : LineMark → Mark
-mark_of (line_mark_lem.At i) = mark.At i
-mark_of line_mark_lem.Absent = mark.Absent
+mark_of (line_marks.At i) = mark.At i
+mark_of line_marks.Absent = mark.Absent
 
 -- The violation of a line.
 abbrev pub violation_of : Fields → Violation

@@ -7,7 +7,7 @@ use Rattle.digits.specs.Digits.{digits, pasted}
 use Rattle.digits.proofs.Writing.{length_digits, digits_low, pasted_next}
 use Rattle.line.specs.declared.Fields.{Fields}
 use Rattle.line.specs.declared.LineMark.{LineMark}
-use Rattle.line.specs.declared.LineMark.TheVariants as line_mark_lem
+use Rattle.line.specs.declared.LineMark.TheVariants as line_marks
 use Rattle.line.specs.Line.{kind_width, place_width, thread_width, locks_width, thread_at, begin_at, commit_at, locks_at, mark_field, held_mark, held_fields, line_length, fields_line}
 
 -- the bytes of a line
@@ -16,8 +16,8 @@ unfolding fields_line
 length_fields_line f = simp (length-append, length_digits)
 
 held_mark_lem : (m : LineMark) → digits place_width (mark_field place_width (held_mark m)) ≡ digits place_width (mark_field place_width m)
-held_mark_lem (line_mark_lem.At i) = digits_low place_width i
-held_mark_lem line_mark_lem.Absent = refl
+held_mark_lem (line_marks.At i) = digits_low place_width i
+held_mark_lem line_marks.Absent = refl
 
 -- a line has the low digits of a place alone
 pub held_line : (f : Fields) → fields_line (held_fields f) ≡ fields_line f

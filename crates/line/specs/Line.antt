@@ -12,7 +12,7 @@ use Rattle.reply.specs.declared.Reply.{Reply}
 use Rattle.reply.specs.declared.Reply.TheVariants as reply
 use Rattle.line.specs.declared.Fields.{Fields}
 use Rattle.line.specs.declared.LineMark.{LineMark}
-use Rattle.line.specs.declared.LineMark.TheVariants as line_mark_lem
+use Rattle.line.specs.declared.LineMark.TheVariants as line_marks
 
 -- "A verdict line is 32 digits and LF: kind (2), frame (4), thread (2), begin (4), commit (4), locks (16)." The digits of each; a frame, a
 -- begin and a commit are places.
@@ -57,21 +57,21 @@ absent_in n = too_wide n - 1
 
 -- The number that is written in n digits for a begin or a commit.
 abbrev pub mark_field : ℕ → LineMark → ℕ
-mark_field n (line_mark_lem.At i) = i
-mark_field n line_mark_lem.Absent = absent_in n
+mark_field n (line_marks.At i) = i
+mark_field n line_marks.Absent = absent_in n
 
 -- "FFFF in begin or commit is always absent": what a number in n digits says of a begin or a commit.
 abbrev pub field_mark : ℕ → ℕ → LineMark
-field_mark n v = cond (eqb v (absent_in n)) line_mark_lem.Absent (line_mark_lem.At v)
+field_mark n v = cond (eqb v (absent_in n)) line_marks.Absent (line_marks.At v)
 
 -- A begin or a commit of a violation, in a line.
 abbrev pub line_mark : Mark → LineMark
-line_mark (mark.At i) = line_mark_lem.At i
-line_mark mark.Absent = line_mark_lem.Absent
+line_mark (mark.At i) = line_marks.At i
+line_mark mark.Absent = line_marks.Absent
 
 -- Of a kind and a frame, with "thread 00, FFFF twice, locks zero".
 abbrev pub bare_fields : ℕ → ℕ → Fields
-bare_fields k p = record { kind = k; frame = p; thread = 0; begin = line_mark_lem.Absent; commit = line_mark_lem.Absent; locks = 0 }
+bare_fields k p = record { kind = k; frame = p; thread = 0; begin = line_marks.Absent; commit = line_marks.Absent; locks = 0 }
 
 -- "Reducible: kind 00, frame = number of frames, thread 00, FFFF twice, locks zero." A violation: the number of its kind, and its values.
 abbrev pub verdict_fields : Verdict → ℕ → Fields
@@ -95,8 +95,8 @@ abbrev pub held_place : ℕ → ℕ
 held_place p = p % too_wide place_width
 
 abbrev pub held_mark : LineMark → LineMark
-held_mark (line_mark_lem.At i) = line_mark_lem.At (held_place i)
-held_mark line_mark_lem.Absent = line_mark_lem.Absent
+held_mark (line_marks.At i) = line_marks.At (held_place i)
+held_mark line_marks.Absent = line_marks.Absent
 
 -- Fields with places that a line holds. Those of the verdicts' replies are so: `RepliesFit` (crate answer).
 abbrev pub held_fields : Fields → Fields
@@ -122,8 +122,8 @@ verdict_line r n = fields_line (reply_fields r n)
 
 -- A begin or a commit that n digits tell: absent, or a place below the number that stands for absent.
 abbrev pub MarkTold : ℕ → LineMark → Type 0
-MarkTold n (line_mark_lem.At i) = i < absent_in n
-MarkTold n line_mark_lem.Absent = Unit {0}
+MarkTold n (line_marks.At i) = i < absent_in n
+MarkTold n line_marks.Absent = Unit {0}
 
 -- Fields that their digits tell. (The kind, the thread and the locks of a reply always are so. The places of the verdicts' replies are, too:
 -- `RepliesFit`, crate answer.)
