@@ -1,5 +1,5 @@
-// Functions that C programs call: the planner's entry, texts, guard lists and verdicts. Equality and the serial order are in crate traceorder:
-// apart from these, so that the judging pass is compiled into one loop here.
+// The functions that C programs call, by way of crate trace_c: the planner's entry, texts, guard lists and verdicts. Equality and the
+// serial order are in crate traceorder: apart from these, so that the judging pass is compiled into one loop here.
 
 #![tactic(auto)]
 

@@ -1,4 +1,4 @@
-// Functions that C programs call: equality of recordings, the serial order, displacements, and commits.
+// The functions that C programs call, by way of crate traceorder_c: equality of recordings, the serial order, displacements, and commits.
 
 #![tactic(auto)]
 

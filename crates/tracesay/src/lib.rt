@@ -1,5 +1,5 @@
-// Functions that C programs call: answers, refusals and verdict lines in words, and the names of kinds and refusals. Each writes into a lent buffer
-// as far as there is room, and replies the number of bytes of the whole.
+// The functions that C programs call, by way of crate tracesay_c: answers, refusals and verdict lines in words, and the names of kinds and
+// refusals. Each writes into a lent buffer as far as there is room, and replies the number of bytes of the whole.
 
 #![tactic(auto)]
 

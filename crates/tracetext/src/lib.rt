@@ -1,4 +1,5 @@
-// Functions that C programs call: recordings written as text, verdict lines read and written by their fields.
+// The functions that C programs call, by way of crate tracetext_c: recordings written as text, verdict lines read and written by their
+// fields.
 
 #![tactic(auto)]
 
