@@ -1,7 +1,7 @@
 #!/usr/bin/env python3
 """Brings the repository's own names in antt to snake case: definitions, lemmas, fields and constructors-to-be in lower case.
 
-usage: tools/respell_names.py [--list]    at the top of the repository, after the port/port.py
+usage: tools/respell_names.py [--list]    at the top of the repository, behind the scripts of the kit (port.py)
 
 digitOf becomes digit_of, by-test by_test, getD-stored get_or_stored. A lemma that would
 have a definition's name gets _lem. Types, modules and constructors keep their capitals, and so do
