@@ -1,4 +1,5 @@
 -- Laws of the walk, one for each way that a turn of its loop can go.
+use Rattle.std.specs.Prelude.{Ok}
 use Prim.Native.Nat.{ℕ, suc, ◌+◌, ◌≤◌, ◌<◌}
 use mathlib.Core.Path.{◌≡◌, refl, sym, ap, subst}
 use mathlib.Core.Logic.{◌↔◌}
@@ -15,7 +16,6 @@ use Rattle.laws.proofs.Lists.{get_or_filled, get_or_stored}
 use Rattle.frame.proofs.Laws.{decoded_in_range}
 use Rattle.frame.specs.Frame.{decode_word, InRange}
 use Rattle.frame.specs.declared.Frame.{Frame}
-use Rattle.frame.specs.declared.Decoded.TheVariants as decoded
 use Rattle.exchange.proofs.Frames.{apart}
 use Rattle.exchange.proofs.Match.{Raised, rest, Well, Fits, rest_all, well_start, well_fits, well_on, well_back, well_end, fits_length}
 use Rattle.exchange.specs.Independent.{clash}
@@ -61,7 +61,7 @@ walk_end {l} {r} {i} {ns} {c} p k h =
     yes l r p (k.same.0 (rw (drop_of_length-le l h) (well_end thread_of clashing (word_at r) (length r) (next_in ns) (last_in c) (omega (arith, k.left)))))
 
 -- The turn at the frame f, whose next of its thread stands at p.
-module _ {l r : List ℕ} {i : ℕ} {ns : List ℕ} {c : Lasts} (k : Walking l r i ns c) (h : i < length l) {f : Frame} (e : decode_word (word_at l i) ≡ decoded.Frame f)
+module _ {l r : List ℕ} {i : ℕ} {ns : List ℕ} {c : Lasts} (k : Walking l r i ns c) (h : i < length l) {f : Frame} (e : decode_word (word_at l i) ≡ Ok f)
     {p : ℕ} (found : FoundIn r f.thread.0 (next_in ns f.thread.0) p) where
   is : f ≡ frame_of (word_at l i)
   is = sym (ap frame_in e)

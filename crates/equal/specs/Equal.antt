@@ -1,9 +1,7 @@
 -- What the comparison of two recordings answers, and the claim that it is equality up to exchanges.
 -- Quotes are from docs/FORMAT.md.
-use Rattle.std.specs.Prelude.{ℕ, ◌≡◌, ◌↔◌, Bool, cond, List, eqb, length}
+use Rattle.std.specs.Prelude.{ℕ, ◌≡◌, ◌↔◌, Bool, cond, List, eqb, length, Result, Ok, Err}
 use Rattle.soundness.specs.Soundness.{check_reply}
-use Rattle.soundness.specs.declared.CheckReply.{CheckReply}
-use Rattle.soundness.specs.declared.CheckReply.TheVariants as check
 use Rattle.exchange.specs.Exchange.{Exchanges, independent_words}
 use Rattle.exchange.specs.Pull.{pull_all}
 use Rattle.equal.specs.declared.Side.TheVariants.{Left, Right}
@@ -11,8 +9,8 @@ use Rattle.equal.specs.declared.EqualReply.{EqualReply}
 use Rattle.equal.specs.declared.EqualReply.TheVariants.{Equal, Different, Refused}
 
 -- The check's reply to a recording that has no refusal.
-abbrev pub sound : CheckReply
-sound = check.Sound
+abbrev pub sound : Result Unit Refused
+sound = (Ok tt)
 
 -- "Equality is yes or no, yes exactly then; recordings of different length are not equal." Each word of the left in turn can be pulled out of
 -- the right past words that are independent of it, and nothing is left of the right.
@@ -23,10 +21,10 @@ abbrev pub yes_or_no : Bool → EqualReply
 yes_or_no b = cond b Equal Different
 
 -- "In the comparison of two recordings the left is checked whole before the right, and the refusal says which side."
-abbrev pub after_checks : CheckReply → CheckReply → Bool → EqualReply
-after_checks (check.Refused x) q b = Refused Left x
-after_checks check.Sound (check.Refused x) b = Refused Right x
-after_checks check.Sound check.Sound b = yes_or_no b
+abbrev pub after_checks : Result Unit Refused → Result Unit Refused → Bool → EqualReply
+after_checks (Err x) q b = Refused Left x
+after_checks (Ok tt) (Err x) b = Refused Right x
+after_checks (Ok tt) (Ok tt) b = yes_or_no b
 
 abbrev pub equal_reply : List ℕ → List ℕ → EqualReply
 equal_reply l r = after_checks (check_reply l) (check_reply r) (equal_words l r)

@@ -6,8 +6,7 @@ ghost use Rattle.std.specs.Prelude.{◌≡◌};
 ghost use Rattle.soundness.specs.Soundness.{check_reply};
 ghost use Rattle.equal.specs.Equal.{sound, equal_words, yes_or_no, equal_reply};
 
-use frame::{Decoded, LOCKS, Refused, THREADS, VARIABLES};
-use soundness::CheckReply;
+use frame::{LOCKS, Refused, THREADS, VARIABLES};
 
 #[derive(Clone, Copy)]
 pub enum Side {
@@ -40,7 +39,7 @@ fn same(left: &[u32], right: &[u32]) -> EqualReply
     while i < left.len() {
         let w = left[i];
         let d = frame::decode(w);
-        let Decoded::Frame(f) = d else {
+        let Ok(f) = d else {
             return EqualReply::Refused(
                 Side::Left,
                 Refused {
@@ -74,11 +73,11 @@ pub fn equal(left: &[u32], right: &[u32]) -> EqualReply
     ensures { result ≡ equal_reply left.now right.now }
 {
     let l = quick::check(left);
-    if let CheckReply::Refused(x) = l {
+    if let Err(x) = l {
         return EqualReply::Refused(Side::Left, x);
     }
     let r = quick::check(right);
-    if let CheckReply::Refused(x) = r {
+    if let Err(x) = r {
         return EqualReply::Refused(Side::Right, x);
     }
     same(left, right)

@@ -95,12 +95,6 @@ pub struct Refused {
     pub place: u32,
 }
 
-#[derive(Clone, Copy)]
-pub enum Decoded {
-    Frame(Frame),
-    Bad(Refusal),
-}
-
 // The three parts of a word: an operation 1 to 6, a thread, and an object that is below the number of variables.
 #[derive(Clone, Copy)]
 pub struct Parts {
@@ -109,96 +103,89 @@ pub struct Parts {
     pub object: u16,
 }
 
-// Bad where a part is outside its range. No frame is.
-#[derive(Clone, Copy)]
-pub enum Split {
-    Parts(Parts),
-    Bad,
-}
-
-pub fn decode(word: u32) -> Decoded
+pub fn decode(word: u32) -> Result<Frame, Refusal>
     ensures { result ≡ decode_word word }
 {
     let op = word / 16777216;
     let thread = word / 65536 % 256;
     let object = word % 65536;
     if op < 1 {
-        return Decoded::Bad(Refusal::Operation);
+        return Err(Refusal::Operation);
     }
     if 6 < op {
-        return Decoded::Bad(Refusal::Operation);
+        return Err(Refusal::Operation);
     }
     if THREAD_END <= thread {
-        return Decoded::Bad(Refusal::Thread);
+        return Err(Refusal::Thread);
     }
     let t = Thread(thread as u8);
     if op <= 2 {
         if LOCK_END <= object {
-            return Decoded::Bad(Refusal::Object);
+            return Err(Refusal::Object);
         }
         let lock = Lock(object as u8);
         if op == 1 {
-            return Decoded::Frame(Frame {
+            return Ok(Frame {
                 thread: t,
                 action: Action::Acquire(lock),
             });
         }
-        return Decoded::Frame(Frame {
+        return Ok(Frame {
             thread: t,
             action: Action::Release(lock),
         });
     }
     if op <= 4 {
         if VARIABLE_END <= object {
-            return Decoded::Bad(Refusal::Object);
+            return Err(Refusal::Object);
         }
         let variable = Variable(object as u16);
         if op == 3 {
-            return Decoded::Frame(Frame {
+            return Ok(Frame {
                 thread: t,
                 action: Action::Read(variable),
             });
         }
-        return Decoded::Frame(Frame {
+        return Ok(Frame {
             thread: t,
             action: Action::Write(variable),
         });
     }
     if object != 0 {
-        return Decoded::Bad(Refusal::Object);
+        return Err(Refusal::Object);
     }
     if op == 5 {
-        return Decoded::Frame(Frame {
+        return Ok(Frame {
             thread: t,
             action: Action::Begin,
         });
     }
-    Decoded::Frame(Frame {
+    Ok(Frame {
         thread: t,
         action: Action::End,
     })
 }
 
 // The parts of a word as numbers. Whether the object is one that the operation can have is not asked.
-pub fn split_word(word: u32) -> Split
+pub fn split_word(word: u32) -> Option<Parts>
     ensures { result ≡ split_word word }
 {
     let op = word / 16777216;
     let thread = (word / 65536 % 256) as u8;
     let object = word % 65536;
     if op < 1 {
-        return Split::Bad;
+        return None;
     }
     if 7 <= op {
-        return Split::Bad;
+        return None;
     }
     if THREAD_BYTE_END <= thread {
-        return Split::Bad;
+        return None;
     }
     if VARIABLE_END <= object {
-        return Split::Bad;
+        return None;
     }
-    Split::Parts(Parts {
+    Some(Parts {
         operation: op as u8,
         thread: Thread(thread),
         object: object as u16,
@@ -206,12 +193,12 @@ pub fn split_word(word: u32) -> Split
 }
 
 // The refusal of a word that does not decode.
-pub fn refusal_of(d: Decoded) -> Refusal
+pub fn refusal_of(d: Result<Frame, Refusal>) -> Refusal
     ensures { result ≡ refusal_of d }
 {
     match d {
-        Decoded::Bad(r) => r,
-        Decoded::Frame(_) => Refusal::Operation,
+        Err(r) => r,
+        Ok(_) => Refusal::Operation,
     }
 }
 

@@ -5,7 +5,7 @@
 ghost use Rattle.std.specs.Prelude.{◌≡◌};
 ghost use Rattle.guards.specs.Guards.{guard_of, guard_line, guards_read, guards_under};
 
-use digits::{Line, digit_values, read_line};
+use digits::{digit_values, read_line};
 use frame::{LOCKS, Lock, MOST, MOST_PLACE, Refusal, Refused, VARIABLES, Variable};
 use text::MOST_BYTES;
 
@@ -41,17 +41,10 @@ enum GuardLine {
     Bad(Refusal),
 }
 
-// The number of lines of a guard list, or why it is refused.
-#[derive(Clone, Copy)]
-pub enum GuardsReply {
-    Lines(u32),
-    Refused(Refused),
-}
-
 // What reading a guard list answers. Where the list is refused, the table is the one that the lines before give.
 #[derive(Drop)]
 pub struct GuardsRead {
-    pub reply: GuardsReply,
+    pub reply: Result<u32, Refused>,
     pub table: [u8; VARIABLES],
 }
 
@@ -69,10 +62,10 @@ pub fn guard_of(code: u8) -> Guard
 }
 
 // What a line names on its own: a variable and its lock, or why it is refused.
-fn guard_line(l: Line) -> GuardLine
+fn guard_line(l: Option<u32>) -> GuardLine
     ensures { result ≡ guard_line l }
 {
-    let Line::Word(w) = l else {
+    let Some(w) = l else {
         return GuardLine::Bad(Refusal::Line);
     };
     let variable = w / 65536;
@@ -96,7 +89,7 @@ pub fn read_guards(list: &[u8]) -> GuardsRead
     while i < MOST {
         if list.len() <= 9 * i {
             return GuardsRead {
-                reply: GuardsReply::Lines(i as u32),
+                reply: Ok(i as u32),
                 table: table,
             };
         }
@@ -104,7 +97,7 @@ pub fn read_guards(list: &[u8]) -> GuardsRead
         match l {
             GuardLine::Bad(r) => {
                 return GuardsRead {
-                    reply: GuardsReply::Refused(Refused {
+                    reply: Err(Refused {
                         reason: r,
                         place: i as u32,
                     }),
@@ -115,7 +108,7 @@ pub fn read_guards(list: &[u8]) -> GuardsRead
                 let x = v.0 as usize;
                 if table[x] != UNPROTECTED {
                     return GuardsRead {
-                        reply: GuardsReply::Refused(Refused {
+                        reply: Err(Refused {
                             reason: Refusal::GuardRepeated,
                             place: i as u32,
                         }),
@@ -129,12 +122,12 @@ pub fn read_guards(list: &[u8]) -> GuardsRead
     }
     if list.len() <= MOST_BYTES {
         return GuardsRead {
-            reply: GuardsReply::Lines(MOST_PLACE),
+            reply: Ok(MOST_PLACE),
             table: table,
         };
     }
     GuardsRead {
-        reply: GuardsReply::Refused(Refused {
+        reply: Err(Refused {
             reason: Refusal::TooLong,
             place: MOST_PLACE,
         }),
@@ -149,7 +142,7 @@ pub fn guards_under(j: Judgement, list: &[u8]) -> GuardsRead
     match j {
         Judgement::Declared => read_guards(list),
         Judgement::Inferred => GuardsRead {
-            reply: GuardsReply::Lines(0),
+            reply: Ok(0),
             table: [INFERRED; VARIABLES],
         },
     }

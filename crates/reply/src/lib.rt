@@ -15,34 +15,19 @@ pub enum Kind {
     SetEmptied,
 }
 
-// A place in the recording, or none.
-#[derive(Clone, Copy)]
-pub enum Mark {
-    At(u32),
-    Absent,
-}
-
 #[derive(Clone, Copy)]
 pub struct Violation {
     pub kind: Kind,
     pub frame: u32,
     pub thread: Thread,
-    pub begin: Mark,
-    pub commit: Mark,
+    pub begin: Option<u32>,
+    pub commit: Option<u32>,
     pub locks: u64,
 }
 
-#[derive(Clone, Copy)]
-pub enum Verdict {
-    Reducible,
-    Violated(Violation),
-}
+pub type Verdict = Result<(), Violation>;
 
-#[derive(Clone, Copy)]
-pub enum Reply {
-    Refused(Refused),
-    Judged(Verdict),
-}
+pub type Reply = Result<Verdict, Refused>;
 
 pub fn kind_number(k: Kind) -> u8
     ensures { result ≡ kind_number k }

@@ -1,13 +1,11 @@
 -- The numbers that answer: the refusal's number in the high 32 bits and its place in the low 32 (`packed`), or what is answered.
-use Rattle.std.specs.Prelude.{ℕ, ◌+◌, ◌*◌}
+use Rattle.std.specs.Prelude.{ℕ, ◌+◌, ◌*◌, Result, Ok, Err}
 use Rattle.frame.specs.declared.Refused.{Refused}
 use Rattle.reply.specs.Reply.{packed}
 use Rattle.equal.specs.declared.Side.{Side}
 use Rattle.equal.specs.declared.Side.TheVariants as side
 use Rattle.equal.specs.declared.EqualReply.{EqualReply}
 use Rattle.equal.specs.declared.EqualReply.TheVariants as equal
-use Rattle.order.specs.declared.OrderReply.{OrderReply}
-use Rattle.order.specs.declared.OrderReply.TheVariants as order
 
 -- A refusal of the right side has its number plus 256 in the high 32 bits.
 abbrev pub packed_side : Side → Refused → ℕ
@@ -20,6 +18,6 @@ equal_answer equal.Equal = 1
 equal_answer equal.Different = 0
 equal_answer (equal.Refused s r) = packed_side s r
 
-abbrev pub order_answer : OrderReply → ℕ
-order_answer (order.Written n) = n
-order_answer (order.Refused r) = packed r
+abbrev pub order_answer : Result ℕ Refused → ℕ
+order_answer (Ok n) = n
+order_answer (Err r) = packed r

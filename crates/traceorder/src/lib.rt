@@ -13,7 +13,6 @@ ghost use Rattle.traceorder.specs.Answers.{packed_side, equal_answer, order_answ
 use equal::{EqualReply, Side};
 use frame::Refused;
 use guards::Judgement;
-use order::OrderReply;
 
 // A refusal of one side of a comparison as one number.
 fn pack_side(side: Side, r: Refused) -> u64
@@ -37,12 +36,12 @@ pub fn trace_equal(left: &[u32], right: &[u32]) -> u64
     }
 }
 
-fn pack_order(q: OrderReply) -> u64
+fn pack_order(q: Result<u32, Refused>) -> u64
     ensures { result ≡ order_answer q }
 {
     match q {
-        OrderReply::Written(n) => n as u64,
-        OrderReply::Refused(x) => reply::pack(x),
+        Ok(n) => n as u64,
+        Err(x) => reply::pack(x),
     }
 }
 

@@ -9,9 +9,8 @@ ghost use Rattle.instrumented.specs.Rules.{judging_of};
 ghost use Rattle.instrumented.specs.Held.{Follows};
 ghost use Rattle.turn.specs.Turn.{turned, turned_to, FollowsAfter};
 
-use frame::{Frame, LOCKS, Refusal, THREADS, VARIABLES};
-use reply::{Verdict, Violation};
-use soundness::Outcome;
+use frame::{Frame, LOCKS, Refusal, THREADS, VARIABLES, Refused};
+use reply::{Violation};
 
 // What a frame does: it leads on, is refused, or goes wrong.
 #[derive(Clone, Copy)]
@@ -44,14 +43,14 @@ pub fn judge_frame(
     let t = thread.0 as usize;
     let depth = depths[t];
     let o = soundness::step(owners, counts, depths, f);
-    let Outcome::Next(level) = o else {
+    let Ok(level) = o else {
         return Turn::Refused(soundness::outcome_refusal(o));
     };
     let a = f.action;
     let op = operation::operation_of(guards, level, a);
     let v = judge::judge(held, begins, commits, sets, depth, i, thread, op);
     match v {
-        Verdict::Reducible => Turn::Next,
-        Verdict::Violated(w) => Turn::Wrong(w),
+        Ok(()) => Turn::Next,
+        Err(w) => Turn::Wrong(w),
     }
 }

@@ -1,6 +1,6 @@
 -- The cases of docs/FORMAT.md that are marked *, as rows of one list, and the claim that every row holds. Words are written as there; a
 -- recording under inferred guards goes in as text, as the planner hands it in.
-use Rattle.std.specs.Prelude.{ℕ, ◌≡◌, Bool, true, false, ◌&&◌, List, [], ◌∷◌, ◌++◌, eqb, ℤ, pos, negsuc, neg_ℤ, length, replicate}
+use Rattle.std.specs.Prelude.{ℕ, ◌≡◌, Bool, true, false, ◌&&◌, List, [], ◌∷◌, ◌++◌, eqb, ℤ, pos, negsuc, neg_ℤ, length, replicate, Option}
 use Prim.Native.String.{String}
 use Rattle.guards.specs.declared.Judgement.TheVariants.{Declared}
 use Rattle.verdict.specs.Verdict.{verdict_under}
@@ -14,7 +14,6 @@ use Rattle.digits.specs.Digits.{digits}
 use Rattle.line.specs.Line.{place_width, mark_field, field_mark, reply_fields, verdict_line}
 use Rattle.output.specs.Output.{bytes}
 use Rattle.line.specs.declared.Fields.{Fields}
-use Rattle.line.specs.declared.LineMark.{LineMark}
 use Rattle.answer.specs.Answer.{text_judged}
 
 -- The text of words: eight digits and an LF each.
@@ -43,7 +42,7 @@ fields k f t b c l = record { kind = k; frame = f; thread = t; begin = field_mar
 abbrev pub absent : ℕ
 absent = 0xFFFF
 
-abbrev pub same_mark : LineMark → LineMark → Bool
+abbrev pub same_mark : Option ℕ → Option ℕ → Bool
 same_mark x y = eqb (mark_field place_width x) (mark_field place_width y)
 
 abbrev pub same_fields : Fields → Fields → Bool
