@@ -1,5 +1,5 @@
 -- The table of commits has the commits of the serial order. In this order: the entry of the place that the walk is at; every entry; the claims.
-use Rattle.std.specs.Prelude.{Ok}
+use Rattle.std.specs.Prelude.{Ok, Result}
 use Prim.Native.Nat.{ℕ, suc, ◌+◌, ◌-◌, ◌≤◌, ◌<◌}
 use mathlib.Core.Path.{◌≡◌, refl, sym, ap, ◌∙◌, subst}
 use mathlib.Core.Bool.{Bool, true, false}
@@ -38,6 +38,7 @@ use Rattle.commitplaces.specs.CommitPlaces.{noted, commits_from, commits_of, com
 use Rattle.unitcommits.specs.UnitCommits.{commits_under, commits_out_under}
 use Rattle.commitlaws.specs.CommitLaws.{Starts, Commits, CommitPlacesAreCommits, CallsLeaveCommits}
 use Rattle.commitlaws.proofs.Entries.{Marks, entry, from, marks_here, marks_next, settled_next, starts_next, stays, noted_long, walk_long, quiet, owned, pending}
+use Rattle.frame.specs.declared.Refusal.{Refusal}
 
 -- The entry of place p, of a table t that became `left`.
 abbrev Left : List ℕ → List ℕ → ℕ → List ℕ → List ℕ → Type 0
@@ -82,7 +83,7 @@ module _ (guards all : List ℕ) {i w : ℕ} {s n : State} {j k : Judging} {x : 
       go false z =
           let inside : get_or s.depths (thread_of f) 0 ≡ 0 → ⊥ = eqb-false _ _ z in
           let elsewhere : Marks (λ v b. b ≡ i → ⊥) s j x = λ v y c. let a = below v y in omega arith in (
-            λ y. let same : y.frame ≡ f = let c : Ok y.frame ≡ Ok f = sym y.is ∙ is in cc in
+            λ y. let same : y.frame ≡ f = let c : ◌≡◌ {A = Result Frame Refusal} (Ok y.frame) (Ok f) = sym y.is ∙ is in cc in
                 absurd (inside (sym (reached_depth all i s reached (thread_of f)) ∙ (ap (λ (c : Frame). depth_after all (thread_of c) i) (sym same) ∙ y.outside))),
             λ y. quiet guards i t' rest (kept_next guards r g o h) (omega arith) (marks_next guards r g o h (λ v b. b ≡ i → ⊥) elsewhere (λ c a. inside c))
                 ∙ stays guards r g o h i t (marks_here guards r g o h (λ v b. b ≡ i → ⊥) elsewhere (λ c a. inside c)),

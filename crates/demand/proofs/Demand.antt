@@ -32,7 +32,6 @@ use Rattle.exchange.proofs.Sound.{exchanges_sound}
 use Rattle.exchange.specs.Exchange.{Exchanges, independent_words}
 use Rattle.equal.proofs.Exchanges.{equal_is_exchanges}
 use Rattle.equal.specs.Equal.{after_checks, equal_words, equal_reply}
-use Rattle.equal.specs.declared.EqualReply.TheVariants as equal
 use Rattle.serial.specs.Order.{serial_words, Closed, Open}
 use Rattle.orderlaws.proofs.Order.{order_exchanges, order_contiguous, closed_open}
 use Rattle.orderlaws.proofs.Open.{none_closed, first_open_lem}
@@ -41,18 +40,18 @@ use Rattle.order.specs.Order.{reducible_reply, closed_reply, reply_by, out_after
 use Rattle.demand.specs.Demand.{Sound, RefusedBy, in_list, in_recording, irreducible, still_open, no_room, Asked, ThirdTerm, OneFirstOpen}
 
 -- recordings that compare as equal are sound
-equal_sound : (p q : Result Unit Refused) (b : Bool) → after_checks p q b ≡ equal.Equal → (p ≡ (Ok tt)) × (q ≡ (Ok tt))
+equal_sound : (p q : Result Unit Refused) (b : Bool) → after_checks p q b ≡ Ok true → (p ≡ (Ok tt)) × (q ≡ (Ok tt))
 equal_sound (Err x) q b e = never (cc)
 equal_sound (Ok tt) (Err x) b e = never (cc)
 equal_sound (Ok tt) (Ok tt) b e = (refl, refl)
 
-equal_exactly : (left right : List ℕ) → equal_reply left right ≡ equal.Equal ↔ Sound left × Sound right × Exchanges independent_words left right
+equal_exactly : (left right : List ℕ) → equal_reply left right ≡ Ok true ↔ Sound left × Sound right × Exchanges independent_words left right
 equal_exactly left right = (
   λ e. let s = equal_sound (check_reply left) (check_reply right) (equal_words left right) e in (s.0, s.1, (equal_is_exchanges left right s.0 s.1).0 e),
   λ s. (equal_is_exchanges left right s.0 s.1).1 s.2,
 )
 
-order_equal : (table ws : List ℕ) → Reducible table ws → Closed ws → equal_reply ws (serial_words table ws) ≡ equal.Equal
+order_equal : (table ws : List ℕ) → Reducible table ws → Closed ws → equal_reply ws (serial_words table ws) ≡ Ok true
 order_equal table ws r c =
     let x = order_exchanges table ws r c in
     let s = judgement_sound table full_sets ws (Ok tt) r in
@@ -80,7 +79,7 @@ judgement_refused table ws x e = go (check_reply ws) refl
   where
     go : (q : Result Unit Refused) → check_reply ws ≡ q → check_reply ws ≡ Err x
     go (Ok tt) f = absurd (pass_refuses table 0 start (start_judging full_sets) ws x (sym (check_short ws (sound_fits ws f)) ∙ f) (rw f at e))
-    go (Err y) f = let g : Err y ≡ Err x = rw f at e in let h : y ≡ x = cc in f ∙ ap Err h
+    go (Err y) f = let g : ◌≡◌ {A = Reply} (Err y) (Err x) = rw f at e in let h : y ≡ x = cc in f ∙ ap Err h
 
 -- A request: what is to hold for it to be granted, and that no refusal holds then.
 module _ {A : Type 0} (short : Refusal) (list : Result ℕ Refused) (table ws : List ℕ) (made out : List A) where
@@ -88,9 +87,9 @@ module _ {A : Type 0} (short : Refusal) (list : Result ℕ Refused) (table ws : 
   Granted = (n : ℕ) × (list ≡ Ok n) × Reducible table ws × Closed ws × (length ws ≤ length out)
 
   not_both : {r : (Result ℕ Refused)} → RefusedBy short list table ws made out r → Granted → ⊥
-  not_both (in_list {x = x} e) g = let z : Err x ≡ Ok g.0 = sym e ∙ g.1 in never (cc)
+  not_both (in_list {x = x} e) g = let z : ◌≡◌ {A = Result ℕ Refused} (Err x) (Ok g.0) = sym e ∙ g.1 in never (cc)
   not_both (in_recording {x = x} e c) g =
-      let z : Err x ≡ (Ok tt) = sym c ∙ judgement_sound table full_sets ws (Ok tt) g.2 in
+      let z : ◌≡◌ {A = Result Unit Refused} (Err x) (Ok tt) = sym c ∙ judgement_sound table full_sets ws (Ok tt) g.2 in
       never (cc)
   not_both (irreducible {v = v} e j) g = let z : violated v ≡ reducible = sym j ∙ g.2 in never (cc)
   not_both (still_open {b = b} e r o) g = none_closed ws b o g.3
@@ -106,7 +105,7 @@ module _ {A : Type 0} (short : Refusal) (list : Result ℕ Refused) (table ws : 
   is_refused : (x : Refused) → RefusedBy short list table ws made out (Err x) → AskedBy (Err x)
   is_refused x by = record { length_exactly_if = (λ e. no e, λ g. absurd (not_both by g)); written = λ e. no e; refused_by = λ n. (by, refl) }
     where
-      no : {A : Type 0} → Err x ≡ Ok (length ws) → A
+      no : {A : Type 0} → ◌≡◌ {A = Result ℕ Refused} (Err x) (Ok (length ws)) → A
       no e = never (cc)
 
   -- a list that is read

@@ -2,7 +2,7 @@
 -- `equal_reply`; what `order::order` answers and leaves in the output is `order_under`, `out_under`. In this order: a request, its refusal and
 -- its answer; the term; that 14 has one place.
 -- Quotes are from docs/FORMAT.md.
-use Rattle.std.specs.Prelude.{ℕ, ◌≤◌, ◌<◌, ◌≡◌, ◌↔◌, List, ◌++◌, length, drop, Result, Ok, Err}
+use Rattle.std.specs.Prelude.{ℕ, ◌≤◌, ◌<◌, ◌≡◌, ◌↔◌, List, ◌++◌, length, drop, Result, Ok, Err, true}
 use Rattle.frame.specs.Refusal.{refused_at}
 use Rattle.frame.specs.declared.Refused.{Refused}
 use Rattle.frame.specs.declared.Refusal.{Refusal}
@@ -16,7 +16,6 @@ use Rattle.pass.specs.Pass.{full_sets, judgement}
 use Rattle.rules.specs.Choice.{Reducible}
 use Rattle.exchange.specs.Exchange.{Exchanges, independent_words}
 use Rattle.equal.specs.Equal.{equal_reply}
-use Rattle.equal.specs.declared.EqualReply.TheVariants as equal
 use Rattle.serial.specs.Order.{serial_words, Closed, Open, FirstOpen, Contiguous}
 use Rattle.order.specs.Order.{order_under, out_under}
 
@@ -47,9 +46,9 @@ module _ {A : Type 0} (short : Refusal) (list : Result ℕ Refused) (table ws : 
 -- other thread's frame inside a block." Guards of every kind, by any table. "The order can be asked for with declared or inferred guards."
 abbrev pub ThirdTerm : Type 0
 ThirdTerm =
-    ((left right : List ℕ) → equal_reply left right ≡ equal.Equal ↔ Sound left × Sound right × Exchanges independent_words left right)
+    ((left right : List ℕ) → equal_reply left right ≡ Ok true ↔ Sound left × Sound right × Exchanges independent_words left right)
     × ((table ws : List ℕ) → Reducible table ws → Closed ws
-    → (equal_reply ws (serial_words table ws) ≡ equal.Equal) × Contiguous (λ t. 0) (serial_words table ws))
+    → (equal_reply ws (serial_words table ws) ≡ Ok true) × Contiguous (λ t. 0) (serial_words table ws))
     × ((j : Judgement) (list ws out : List ℕ)
     → Asked refusal.OutputBuffer (guards_under j list).reply (guards_under j list).table ws (serial_words (guards_under j list).table ws) out
     (order_under j list ws (length out)) (out_under j list ws out))

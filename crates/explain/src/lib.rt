@@ -7,7 +7,7 @@ ghost use Rattle.output.specs.Output.{behind, written};
 ghost use Rattle.explain.specs.Explain.{explanation};
 
 use phrase::Source;
-use reply::{Reply};
+use reply::Reply;
 use sentence::say;
 
 // The answer to a recording of so many frames, in words.

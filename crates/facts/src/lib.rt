@@ -6,9 +6,9 @@ ghost use Rattle.std.specs.Prelude.{◌≡◌, get_or};
 ghost use Rattle.frame.specs.Frame.{decode_word};
 ghost use Rattle.facts.specs.Facts.{place_of, thread_in, place_facts, violation_facts};
 
-use frame::{Refusal, Thread, Frame};
+use frame::{Frame, Refusal, Thread};
 use phrase::Source;
-use reply::{Violation};
+use reply::Violation;
 use sentence::Facts;
 
 // The frame at a place. Outside the recording it is that of the word 0, which is no frame.

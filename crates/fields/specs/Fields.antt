@@ -7,8 +7,6 @@ use Rattle.frame.specs.declared.Refusal.TheVariants as refusal
 use Rattle.digits.specs.Digits.{all_digits, values_of, joined}
 use Rattle.line.specs.Line.{kind_width, place_width, thread_width, locks_width, frame_at, thread_at, begin_at, commit_at, locks_at, line_end, line_length, field_mark, fields_line}
 use Rattle.line.specs.declared.Fields.{Fields}
-use Rattle.fields.specs.declared.LineReply.TheVariants as line
-use Rattle.fields.specs.declared.LineWritten.{LineWritten}
 
 -- "Kinds 00 to 04 and 81 to FF read, and 05 to 80 do not"
 abbrev pub is_kind : ℕ → Bool
@@ -41,7 +39,6 @@ line_fields s =
     (Err no_line)
 
 -- "The kind of fields that are written is tested as that of a line is." Where it is refused the bytes are zeros.
-abbrev pub written_line : Fields → LineWritten
+abbrev pub written_line : Fields → Result (List ℕ) Refused
 written_line f =
-    cond (is_kind f.kind) (record { reply = line.Written; line = fields_line f })
-    (record { reply = line.Refused no_line; line = replicate line_length 0 })
+    cond (is_kind f.kind) (Ok (fields_line f)) (Err no_line)

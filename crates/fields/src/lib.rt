@@ -9,20 +9,10 @@ ghost use Rattle.fields.specs.Fields.{is_kind, no_line, fields_of, line_fields, 
 
 use digits::{digit_list, join};
 use frame::{Refusal, Refused};
-use line::{BEGIN_AT, COMMIT_AT, FRAME_AT, Fields, KIND_WIDTH, LINE, LINE_END, LOCKS_AT, LOCKS_WIDTH, PLACE_WIDTH, Place, THREAD_AT, THREAD_WIDTH};
-
-#[derive(Clone, Copy)]
-pub enum LineReply {
-    Written,
-    Refused(Refused),
-}
-
-// The line of some fields. Where they are refused its bytes are zeros.
-#[derive(Clone, Copy)]
-pub struct LineWritten {
-    pub reply: LineReply,
-    pub line: [u8; LINE],
-}
+use line::{
+    BEGIN_AT, COMMIT_AT, FRAME_AT, Fields, KIND_WIDTH, LINE, LINE_END, LOCKS_AT, LOCKS_WIDTH,
+    PLACE_WIDTH, Place, THREAD_AT, THREAD_WIDTH,
+};
 
 // Whether a line may have a kind.
 fn is_kind(k: u8) -> bool
@@ -55,7 +45,14 @@ pub fn field_mark(v: Place) -> Option<Place>
 }
 
 // The fields with these numbers.
-fn fields_of(kind: u64, frame: u64, thread: u64, begin: u64, commit: u64, locks: u64) -> Result<Fields, Refused>
+fn fields_of(
+    kind: u64,
+    frame: u64,
+    thread: u64,
+    begin: u64,
+    commit: u64,
+    locks: u64,
+) -> Result<Fields, Refused>
     requires fact_1 { kind < too_wide kind_width }
     requires fact_2 { frame < too_wide place_width }
     requires fact_3 { thread < too_wide thread_width }
@@ -100,19 +97,12 @@ pub fn read_fields(line: &[u8]) -> Result<Fields, Refused>
     fields_of(kind, frame, thread, begin, commit, locks)
 }
 
-// The line of some fields.
-pub fn write_fields(f: Fields) -> LineWritten
+// The line of some fields, or why it is none.
+pub fn write_fields(f: Fields) -> Result<[u8; LINE], Refused>
     ensures { result ≡ written_line f }
 {
     if is_kind(f.kind) {
-        let l = line::fields_line(f);
-        return LineWritten {
-            reply: LineReply::Written,
-            line: l,
-        };
+        return Ok(line::fields_line(f));
     }
-    LineWritten {
-        reply: LineReply::Refused(no_line()),
-        line: [0; LINE],
-    }
+    Err(no_line())
 }

@@ -1,5 +1,5 @@
 -- Laws of decoding: what is decoded is in its ranges, decoding and encoding undo each other, and the parts of a word are those of its frame.
-use Rattle.std.specs.Prelude.{Ok, Err, Some, None}
+use Rattle.std.specs.Prelude.{Ok, Err, Some, None, Result}
 use Prim.Native.Nat.{ℕ, zero, suc, ◌/◌, ◌%◌, ◌<◌, ◌≤◌}
 use mathlib.Core.Path.{◌≡◌, refl, ap, ◌∙◌, subst}
 use mathlib.Core.Bool.{Bool, true, false}
@@ -25,7 +25,7 @@ pub record Shown (op t o : ℕ) (f : Frame) : Type 0 where
   pub object : object_fits op o ≡ true
   pub frame : f ≡ record { thread = record { 0 = t }; action = action_of op o }
 
-same_frame : (f g : Frame) → Ok f ≡ Ok g → g ≡ f
+same_frame : (f g : Frame) → ◌≡◌ {A = Result Frame Refusal} (Ok f) (Ok g) → g ≡ f
 same_frame f g e = cc
 
 pub shown : (op t o : ℕ) (f : Frame) → decode_parts op t o ≡ Ok f → Shown op t o f
@@ -33,10 +33,10 @@ unfolding decode_parts
 shown op t o f e = go (ltb op 1) refl (ltb 6 op) refl (leb thread_count t) refl (object_fits op o) refl
   where
     go : (a : Bool) → ltb op 1 ≡ a → (b : Bool) → ltb 6 op ≡ b → (d : Bool) → leb thread_count t ≡ d → (g : Bool) → object_fits op o ≡ g → Shown op t o f
-    go true p b q d r g u = let z : Err refusal.Operation ≡ Ok f = rw p at e in never (cc)
-    go false p true q d r g u = let z : Err refusal.Operation ≡ Ok f = rw (p, q) at e in never (cc)
-    go false p false q true r g u = let z : Err refusal.Thread ≡ Ok f = rw (p, q, r) at e in never (cc)
-    go false p false q false r false u = let z : Err refusal.Object ≡ Ok f = rw (p, q, r, u) at e in never (cc)
+    go true p b q d r g u = let z : ◌≡◌ {A = Result Frame Refusal} (Err refusal.Operation) (Ok f) = rw p at e in never (cc)
+    go false p true q d r g u = let z : ◌≡◌ {A = Result Frame Refusal} (Err refusal.Operation) (Ok f) = rw (p, q) at e in never (cc)
+    go false p false q true r g u = let z : ◌≡◌ {A = Result Frame Refusal} (Err refusal.Thread) (Ok f) = rw (p, q, r) at e in never (cc)
+    go false p false q false r false u = let z : ◌≡◌ {A = Result Frame Refusal} (Err refusal.Object) (Ok f) = rw (p, q, r, u) at e in never (cc)
     go false p false q false r true u = record {
       low = ltb-false op 1 p;
       high = ltb-false 6 op q;

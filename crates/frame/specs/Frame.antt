@@ -47,11 +47,6 @@ split_parts op t o =
 abbrev pub split_word : ℕ → Option Parts
 split_word w = split_parts (w / 16777216) (w / 65536 % 256) (w % 65536)
 
--- The refusal of a word that does not decode (asked of no other).
-abbrev pub refusal_of : Result Frame Refusal → Refusal
-refusal_of (Ok f) = refusal.Operation
-refusal_of (Err r) = r
-
 -- The word with these three parts.
 abbrev pub word_of : ℕ → ℕ → ℕ → ℕ
 word_of op t o = op * 16777216 + t * 65536 + o

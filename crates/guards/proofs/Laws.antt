@@ -1,7 +1,7 @@
 -- Laws of guard lists, in this order: reading line by line; the table's length; that a list is never too long; what an
 -- accepted list says of its text, of the variables that it names and of the others; which lists are accepted; that line order has no
 -- meaning.
-use Rattle.std.specs.Prelude.{Ok, Err, Option, Some, None}
+use Rattle.std.specs.Prelude.{Ok, Err, Option, Some, None, Result}
 use Prim.Native.Nat.{ℕ, zero, suc, ◌+◌, ◌-◌, ◌*◌, ◌≤◌, ◌<◌}
 use mathlib.Core.Path.{◌≡◌, refl, sym, ap, ◌∙◌}
 use mathlib.Core.Bool.{Bool, true, false, cond}
@@ -164,7 +164,7 @@ unfolding free
 free_replicate zero = refl
 free_replicate (suc n) = omega (arith, free_replicate n)
 
-same_refused : (a b : Refused) → Err a ≡ Err b → a ≡ b
+same_refused : (a b : Refused) → ◌≡◌ {A = Result ℕ Refused} (Err a) (Err b) → a ≡ b
 same_refused a b e = cc
 
 -- each line names one variable more, so the lines never run out
@@ -181,7 +181,7 @@ lists_are_never_too_long s p e = run_short (whole s) (omega (arith, free_replica
 
 -- An accepted list: the reply is n lines.
 module _ (s : List ℕ) (n : ℕ) where
-  same_lines : (i : ℕ) → Ok i ≡ Ok n → i ≡ n
+  same_lines : (i : ℕ) → ◌≡◌ {A = Result ℕ Refused} (Ok i) (Ok n) → i ≡ n
   same_lines i e = cc
 
   word_of : (i w : ℕ) → line_of s (9 * i) ≡ Some w → word_at s i ≡ w

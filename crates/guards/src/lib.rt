@@ -34,11 +34,11 @@ pub enum Guard {
     Inferred,
 }
 
-// What a guard line names, or why it is refused on its own.
+// What a guard line names.
 #[derive(Clone, Copy)]
-enum GuardLine {
-    Names(Variable, Lock),
-    Bad(Refusal),
+struct GuardLine {
+    variable: Variable,
+    lock: Lock,
 }
 
 // What reading a guard list answers. Where the list is refused, the table is the one that the lines before give.
@@ -62,21 +62,24 @@ pub fn guard_of(code: u8) -> Guard
 }
 
 // What a line names on its own: a variable and its lock, or why it is refused.
-fn guard_line(l: Option<u32>) -> GuardLine
+fn guard_line(l: Option<u32>) -> Result<GuardLine, Refusal>
     ensures { result ≡ guard_line l }
 {
     let Some(w) = l else {
-        return GuardLine::Bad(Refusal::Line);
+        return Err(Refusal::Line);
     };
     let variable = w / 65536;
     let lock = w % 65536;
     if VARIABLE_END <= variable {
-        return GuardLine::Bad(Refusal::GuardRange);
+        return Err(Refusal::GuardRange);
     }
     if LOCK_END <= lock {
-        return GuardLine::Bad(Refusal::GuardRange);
+        return Err(Refusal::GuardRange);
     }
-    GuardLine::Names(Variable(variable as u16), Lock(lock as u8))
+    Ok(GuardLine {
+        variable: Variable(variable as u16),
+        lock: Lock(lock as u8),
+    })
 }
 
 // The guards of a list: each line names a variable and its lock, and a variable that no line names is unprotected.
@@ -95,7 +98,7 @@ pub fn read_guards(list: &[u8]) -> GuardsRead
         }
         let l = guard_line(read_line(&t, list, 9 * i));
         match l {
-            GuardLine::Bad(r) => {
+            Err(r) => {
                 return GuardsRead {
                     reply: Err(Refused {
                         reason: r,
@@ -104,8 +107,8 @@ pub fn read_guards(list: &[u8]) -> GuardsRead
                     table: table,
                 };
             }
-            GuardLine::Names(v, k) => {
-                let x = v.0 as usize;
+            Ok(g) => {
+                let x = g.variable.0 as usize;
                 if table[x] != UNPROTECTED {
                     return GuardsRead {
                         reply: Err(Refused {
@@ -115,7 +118,7 @@ pub fn read_guards(list: &[u8]) -> GuardsRead
                         table: table,
                     };
                 }
-                table[x] = k.0;
+                table[x] = g.lock.0;
                 i += 1;
             }
         }

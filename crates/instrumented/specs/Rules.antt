@@ -1,7 +1,7 @@
 -- The instrumented rules of the paper's figures 8 and 11 as a step function: what a sound frame does to its thread and to the candidate
 -- sets. In this order: where a thread stands, the state, violations, the step.
 -- Quotes are from docs/FORMAT.md.
-use Rattle.std.specs.Prelude.{ℕ, ◌+◌, ◌-◌, ◌^◌, ◌/◌, ◌%◌, Bool, cond, List, eqb, get_or, set, Ok, Err, Option, Some, None}
+use Rattle.std.specs.Prelude.{ℕ, ◌+◌, ◌-◌, ◌^◌, ◌/◌, ◌%◌, Bool, cond, List, eqb, get_or, set, Ok, Err, Option, Some, None, Result}
 use Rattle.std.specs.Int.Bits.{bit_and}
 use Rattle.frame.specs.declared.Thread.{Thread}
 use Rattle.frame.specs.declared.Lock.{Lock}
@@ -9,7 +9,6 @@ use Rattle.reply.specs.declared.Kind.{Kind}
 use Rattle.reply.specs.declared.Kind.TheVariants as kind
 use Rattle.reply.specs.Reply.{Verdict}
 use Rattle.instrumented.specs.declared.Fault.{Fault}
-use Rattle.instrumented.specs.declared.Fault.TheVariants as fault
 use Rattle.operation.specs.declared.Operation.{Operation}
 use Rattle.operation.specs.declared.Operation.TheVariants.{Acquire, Release, Protected, Unprotected, Inferred, Begin, End}
 
@@ -60,9 +59,9 @@ violation k i t p locks =
     Err (record { kind = k; frame = i; thread = t; begin = begin_mark p; commit = commit_mark p; locks = locks })
 
 -- The verdict on a frame by what is wrong with it.
-abbrev pub fault_verdict : Fault → ℕ → Thread → Phase → Verdict
-fault_verdict fault.None i t p = (Ok tt)
-fault_verdict (fault.Wrong k locks) i t p = violation k i t p locks
+abbrev pub fault_verdict : Result Unit Fault → ℕ → Thread → Phase → Verdict
+fault_verdict (Ok tt) i t p = (Ok tt)
+fault_verdict (Err x) i t p = violation x.kind i t p x.locks
 
 -- "Lock n is bit n of a 64-bit set."
 abbrev pub contains : ℕ → Lock → Bool

@@ -43,7 +43,7 @@ Keeps j x = (v : Violation) (k : Judging) → x ≡ judged (Err v) k → k ≡ j
 
 keeps_go : (j n : Judging) → Keeps j (judged (Ok tt) n)
 keeps_go j n v k e =
-    let f : (Ok tt) ≡ Err v = ap (λ (x : Judged). x.verdict) e in
+    let f : ◌≡◌ {A = Verdict} (Ok tt) (Err v) = ap (λ (x : Judged). x.verdict) e in
     never (cc)
 
 keeps_wrong : (j : Judging) (w : Verdict) → Keeps j (judged w j)

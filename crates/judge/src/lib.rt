@@ -8,7 +8,6 @@ ghost use Rattle.instrumented.specs.Rules.{violation, phase_of, judging_of, judg
 ghost use Rattle.instrumented.specs.Held.{Holdable, holding};
 
 use frame::{THREADS, Thread, VARIABLES};
-use instrumented::Fault;
 use operation::Operation;
 use reply::{Kind, Verdict, Violation};
 
@@ -68,10 +67,10 @@ pub fn judge(
 {
     let f = instrumented::apply(held, begins, commits, sets, d, i, thread, op);
     match f {
-        Fault::None => Ok(()),
-        Fault::Wrong(kind, locks) => {
+        Ok(()) => Ok(()),
+        Err(fault) => {
             let k = thread.0 as usize;
-            wrong(kind, i, thread, d, begins[k], commits[k], locks)
+            wrong(fault.kind, i, thread, d, begins[k], commits[k], fault.locks)
         }
     }
 }

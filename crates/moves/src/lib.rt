@@ -5,8 +5,8 @@
 ghost use Rattle.std.specs.Prelude.{◌≡◌, length};
 ghost use Rattle.moves.specs.Moves.{moves_reply, moves_out, moves_under, moves_out_under};
 
-use frame::{Refusal, VARIABLES, Refused};
-use guards::{Judgement};
+use frame::{Refusal, Refused, VARIABLES};
+use guards::Judgement;
 
 // The displacements under a table of guards: the checks, and the walk, which writes.
 fn under_guards(words: &[u32], guards: &[u8; VARIABLES], moves: &mut [i32]) -> Result<u32, Refused>

@@ -76,9 +76,9 @@ accepted short table ws room n e = by_test (reducible_reply (judgement table ful
     ended : (judgement table full_sets ws).reply ≡ reducible → (m : Option ℕ) → open_at_end (judgement table full_sets ws) ≡ m → (t : Bool) → ltb room (length ws) ≡ t
         → closed_reply short m (length ws) room ≡ Ok n → Accepted table ws room n
     ended r (Some b) o t l q = never (cc)
-    ended r None o true l q = let z : Err (refused_at short (length ws)) ≡ Ok n = rw l at q in never (cc)
+    ended r None o true l q = let z : ◌≡◌ {A = Result ℕ Refused} (Err (refused_at short (length ws))) (Ok n) = rw l at q in never (cc)
     ended r None o false l q =
-        let z : Ok (length ws) ≡ Ok n = rw l at q in
+        let z : ◌≡◌ {A = Result ℕ Refused} (Ok (length ws)) (Ok n) = rw l at q in
         record { reducibly = r; closed = closed_open table ws r o; fits = ltb-false room (length ws) l; count = cc }
 
 pub accepted_under : (short : Refusal) (j : Judgement) (list ws : List ℕ) (room n : ℕ) → reply_under short j list ws room ≡ Ok n

@@ -6,8 +6,8 @@ ghost use Rattle.std.specs.Prelude.{◌≡◌, not, length};
 ghost use Rattle.order.specs.Order.{reducible_reply, irreducible, list_refused, reply_by, order_reply, order_out, order_under, out_under};
 
 use frame::{ALL_LOCKS, Refusal, Refused, VARIABLES};
-use guards::{Judgement};
-use reply::{Reply};
+use guards::Judgement;
+use reply::Reply;
 
 // The refusal of a recording that is refused or not reducible.
 fn refusal(r: Reply) -> Result<u32, Refused>
@@ -39,7 +39,12 @@ fn is_irreducible(r: Reply) -> bool
 
 // What a request on a recording under a table of guards is answered, with what it writes left out: a lent buffer has room elements, and is
 // refused by short where these are fewer than the frames.
-pub fn check(words: &[u32], guards: &[u8; VARIABLES], room: usize, short: Refusal) -> Result<u32, Refused>
+pub fn check(
+    words: &[u32],
+    guards: &[u8; VARIABLES],
+    room: usize,
+    short: Refusal,
+) -> Result<u32, Refused>
     ensures { result ≡ reply_by short guards.now words.now room }
 {
     let mut sets = [ALL_LOCKS; VARIABLES];

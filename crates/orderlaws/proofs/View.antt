@@ -37,6 +37,7 @@ use Rattle.turn.specs.Turn.{judge_frame}
 use Rattle.rules.proofs.Store.{held_is}
 use Rattle.reduction.proofs.Run.{Run, put, level_in, counted, sound, right, afterwards, committing, commit_after, seen}
 use Rattle.reduction.proofs.Steps.{put_cases}
+use Rattle.reply.specs.Reply.{Verdict}
 
 -- The code forgets a commit at the next outermost begin, the run at the outermost end: outside a block the commit counts as none.
 abbrev pub view_of : State → Judging → Run
@@ -113,12 +114,12 @@ then_right : (b : Bool) (x y k : Judging) (v : Violation)
     → cond b (judged (Ok tt) x) (judged (Err v) y) ≡ judged (Ok tt) k → (b ≡ true) × (k ≡ x)
 then_right true x y k v e = (refl, sym (ap (λ (x : Judged). x.judging) e))
 then_right false x y k v e =
-    let q : Err v ≡ (Ok tt) = ap (λ (x : Judged). x.verdict) e in never (cc)
+    let q : ◌≡◌ {A = Verdict} (Err v) (Ok tt) = ap (λ (x : Judged). x.verdict) e in never (cc)
 
 else_right : (b : Bool) (x y k : Judging) (v : Violation)
     → cond b (judged (Err v) y) (judged (Ok tt) x) ≡ judged (Ok tt) k → (b ≡ false) × (k ≡ x)
 else_right true x y k v e =
-    let q : Err v ≡ (Ok tt) = ap (λ (x : Judged). x.verdict) e in never (cc)
+    let q : ◌≡◌ {A = Verdict} (Err v) (Ok tt) = ap (λ (x : Judged). x.verdict) e in never (cc)
 else_right false x y k v e = (refl, sym (ap (λ (x : Judged). x.judging) e))
 
 -- an acquire and an unprotected access do not go wrong outside and before commit

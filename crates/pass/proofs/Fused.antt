@@ -19,15 +19,15 @@ use Rattle.soundness.proofs.Laws.{check_short}
 use Rattle.soundness.specs.declared.Level.{Level}
 use Rattle.instrumented.specs.Rules.{Judging, judged}
 use Rattle.turn.specs.Turn.{judge_frame, turned, turned_to}
-use Rattle.turn.specs.declared.Turn.{Turn}
-use Rattle.turn.specs.declared.Turn.TheVariants as turn
+use Rattle.turn.specs.declared.Stop.{Stop}
+use Rattle.turn.specs.declared.Stop.TheVariants as stop
 use Rattle.pass.specs.Pass.{Ended, ended, on_decoded, judge_from, start_judging, on_check, judgement, sets_left, after_check, open_at_end}
 use Rattle.frame.specs.declared.Refused.{Refused}
 
-abbrev pub on_fused : Turn → ℕ → State → Judging → Result Unit Refused → Ended → Ended
-on_fused turn.Next i s j q rest = rest
-on_fused (turn.Refused r) i s j q rest = ended (refused r i) s j
-on_fused (turn.Wrong v) i s j q rest = ended (after_check q v) s j
+abbrev pub on_fused : Result Unit Stop → ℕ → State → Judging → Result Unit Refused → Ended → Ended
+on_fused (Ok tt) i s j q rest = rest
+on_fused (Err (stop.Refused r)) i s j q rest = ended (refused r i) s j
+on_fused (Err (stop.Wrong v)) i s j q rest = ended (after_check q v) s j
 
 module _ (guards : List ℕ) where
   unfoldable pub fused_from : ℕ → State → Judging → List ℕ → Ended
@@ -98,7 +98,7 @@ module _ (guards ws : List ℕ) (i : ℕ) (s : State) (j : Judging) where
     unfolding fused_from
     fused_bad e = rw (drop-cons ws i 0 h, e)
 
-    pub fused_turn : {f : Frame} {q : Turn} {n : State} {k : Judging} → decode_word (get_or ws i 0) ≡ Ok f → turned guards i f s j ≡ turned_to q n k
+    pub fused_turn : {f : Frame} {q : Result Unit Stop} {n : State} {k : Judging} → decode_word (get_or ws i 0) ≡ Ok f → turned guards i f s j ≡ turned_to q n k
         → fused_from guards i s j (drop i ws) ≡ on_fused q i s j (check_from (i + 1) n (drop (i + 1) ws)).reply (fused_from guards (i + 1) n k (drop (i + 1) ws))
     unfolding fused_from
     fused_turn e t = rw (drop-cons ws i 0 h, e, t, add-one i)

@@ -13,15 +13,15 @@ use Rattle.frame.specs.Frame.{decode_word}
 use Rattle.frame.specs.declared.Frame.{Frame}
 use Rattle.frame.specs.declared.Thread.{Thread}
 use Rattle.frame.specs.declared.Lock.{Lock}
-use Rattle.reply.specs.Reply.{Verdict}
+use Rattle.reply.specs.Reply.{Verdict, Reply}
 use Rattle.soundness.specs.Soundness.{State, step_frame, check_reply, start}
 use Rattle.soundness.proofs.Laws.{sound_fits}
 use Rattle.instrumented.specs.Rules.{Phase, outside, before, after, Judging, Judged, phase_at, contains, with_commit, committed, acquire_in, unprotected_in, judge_operation}
 use Rattle.operation.specs.declared.Operation.{Operation}
 use Rattle.operation.specs.declared.Operation.TheVariants.{Acquire, Release, Protected, Unprotected, Inferred, Begin, End}
 use Rattle.turn.specs.Turn.{judge_frame, Turned, turned, by_verdict, by_outcome}
-use Rattle.turn.specs.declared.Turn.{Turn}
-use Rattle.turn.specs.declared.Turn.TheVariants as turn
+use Rattle.turn.specs.declared.Stop.{Stop}
+use Rattle.turn.specs.declared.Stop.TheVariants as stop
 use Rattle.pass.specs.Pass.{Ended, on_turn, judge_from, start_judging, on_check, judgement, sets_left}
 use Rattle.frame.specs.declared.Refused.{Refused}
 use Rattle.soundness.specs.declared.Level.{Level}
@@ -63,10 +63,10 @@ turn_length guards i f s j = stepping (step_frame f s).outcome _ (judging (judge
     stepping (Ok y) x e = e
     stepping (Err r) x e = refl
 
-onward : (t : Turn) (i : ℕ) (s : State) (j : Judging) (e : Ended) → length e.judging.sets ≡ length j.sets → length (on_turn t i s j e).judging.sets ≡ length j.sets
-onward turn.Next i s j e q = q
-onward (turn.Refused r) i s j e q = refl
-onward (turn.Wrong v) i s j e q = refl
+onward : (t : Result Unit Stop) (i : ℕ) (s : State) (j : Judging) (e : Ended) → length e.judging.sets ≡ length j.sets → length (on_turn t i s j e).judging.sets ≡ length j.sets
+onward (Ok tt) i s j e q = q
+onward (Err (stop.Refused r)) i s j e q = refl
+onward (Err (stop.Wrong v)) i s j e q = refl
 
 judge_length : (guards : List ℕ) (i : ℕ) (s : State) (j : Judging) (ws : List ℕ) → length (judge_from guards i s j ws).judging.sets ≡ length j.sets
 unfolding judge_from
@@ -99,7 +99,7 @@ judgement_sound guards sets ws v e = go (check_reply ws) refl
   where
     go : (q : Result Unit Refused) → check_reply ws ≡ q → check_reply ws ≡ (Ok tt)
     go (Ok tt) f = f
-    go (Err r) f = let g : Err r ≡ Ok v = rw f at e in never (cc)
+    go (Err r) f = let g : ◌≡◌ {A = Reply} (Err r) (Ok v) = rw f at e in never (cc)
 
 -- and has at most 4,096 frames
 pub judgement_fits : (guards sets ws : List ℕ) (v : Verdict) → (judgement guards sets ws).reply ≡ Ok v → length ws ≤ most_frames

@@ -22,8 +22,8 @@ use Rattle.instrumented.specs.Rules.{Phase, outside, before, after, Judging, Jud
 use Rattle.operation.specs.declared.Operation.{Operation}
 use Rattle.operation.specs.declared.Operation.TheVariants.{Acquire, Release, Protected, Unprotected, Inferred, Begin, End}
 use Rattle.turn.specs.Turn.{judge_frame, Turned, turned, by_verdict, by_outcome}
-use Rattle.turn.specs.declared.Turn.{Turn}
-use Rattle.turn.specs.declared.Turn.TheVariants as turn
+use Rattle.turn.specs.declared.Stop.{Stop}
+use Rattle.turn.specs.declared.Stop.TheVariants as stop
 use Rattle.pass.specs.Pass.{Ended, on_decoded, on_turn, judge_from, start_judging, on_check, judgement}
 use Rattle.frame.specs.declared.Refused.{Refused}
 use Rattle.soundness.specs.declared.Level.{Level}
@@ -44,10 +44,10 @@ abbrev pub VerdictBelow : ℕ → Verdict → Type 0
 VerdictBelow m (Ok tt) = Unit {0}
 VerdictBelow m (Err v) = Below m v
 
-abbrev TurnBelow : ℕ → Turn → Type 0
-TurnBelow m turn.Next = Unit {0}
-TurnBelow m (turn.Refused r) = Unit {0}
-TurnBelow m (turn.Wrong v) = Below m v
+abbrev TurnBelow : ℕ → Result Unit Stop → Type 0
+TurnBelow m (Ok tt) = Unit {0}
+TurnBelow m (Err (stop.Refused r)) = Unit {0}
+TurnBelow m (Err (stop.Wrong v)) = Below m v
 
 -- So are those of a reply; a refusal may be at m.
 abbrev pub ReplyBelow : ℕ → Reply → Type 0
@@ -149,10 +149,10 @@ module _ (m i : ℕ) (s : State) (j : Judging) (h : i < m) where
   decoding (Ok f) rest g = g f
   decoding (Err r) rest g = omega arith
 
-  onward : (t : Turn) (e : Ended) → TurnBelow (i + 1) t → ReplyBelow m e.reply → ReplyBelow m (on_turn t i s j e).reply
-  onward turn.Next e b g = g
-  onward (turn.Refused r) e b g = omega arith
-  onward (turn.Wrong v) e b g = record { frame = omega (arith, b.frame); begin = b.begin; commit = b.commit }
+  onward : (t : Result Unit Stop) (e : Ended) → TurnBelow (i + 1) t → ReplyBelow m e.reply → ReplyBelow m (on_turn t i s j e).reply
+  onward (Ok tt) e b g = g
+  onward (Err (stop.Refused r)) e b g = omega arith
+  onward (Err (stop.Wrong v)) e b g = record { frame = omega (arith, b.frame); begin = b.begin; commit = b.commit }
 
 judge_places : (guards : List ℕ) (i : ℕ) (s : State) (j : Judging) (ws : List ℕ) (m : ℕ) → i + length ws ≤ m → Since i j
     → ReplyBelow m (judge_from guards i s j ws).reply

@@ -15,7 +15,7 @@ use Rattle.reply.specs.declared.Violation.{Violation}
 use Rattle.instrumented.specs.Rules.{Judging, judging_of}
 use Rattle.instrumented.specs.Held.{Follows}
 use Rattle.turn.specs.Turn.{turned, turned_to}
-use Rattle.turn.specs.declared.Turn.TheVariants as turn
+use Rattle.turn.specs.declared.Stop.TheVariants as stop
 use Rattle.turn.proofs.Held.{none_held}
 use Rattle.turn.proofs.Laws.{turn_keeps}
 use Rattle.pass.specs.declared.Passed.{Passed}
@@ -64,12 +64,12 @@ module _ {words guards sets₀ sets owners counts depths hs begins commits : Lis
     turn_bad e q = answered (fused_bad guards words i (state_of owners counts depths) (judging_of begins commits sets) h e) q refl
 
     module _ {f : Frame} (e : decode_word (get_or words i 0) ≡ Ok f) {n : State} {k : Judging} where
-      pub turn_refused : {b : Refusal} → turned guards i f (state_of owners counts depths) (judging_of begins commits sets) ≡ turned_to (turn.Refused b) n k
+      pub turn_refused : {b : Refusal} → turned guards i f (state_of owners counts depths) (judging_of begins commits sets) ≡ turned_to (Err (stop.Refused b)) n k
           → r ≡ passed_with (refused b i) None
           → Gives guards sets₀ words r k.sets
       turn_refused t q = answered (fused_turn guards words i _ _ h e t) q (ap (λ (x : Judging). x.sets) (turn_keeps guards i f _ _ t))
 
-      pub turn_wrong : {v : Violation} → turned guards i f (state_of owners counts depths) (judging_of begins commits sets) ≡ turned_to (turn.Wrong v) n k
+      pub turn_wrong : {v : Violation} → turned guards i f (state_of owners counts depths) (judging_of begins commits sets) ≡ turned_to (Err (stop.Wrong v)) n k
           → r ≡ passed_with (after_check (check_from (i + 1) n (drop (i + 1) words)).reply v) None
           → Gives guards sets₀ words r k.sets
       turn_wrong {v} t q =
@@ -78,6 +78,6 @@ module _ {words guards sets₀ sets owners counts depths hs begins commits : Lis
           (ap (λ (x : Judging). x.sets) (turn_keeps guards i f _ _ t))
 
   pub turn_next : i < length words → {f : Frame} → decode_word (get_or words i 0) ≡ Ok f → {n : State} {k : Judging} {hs' : List ℕ}
-      → turned guards i f (state_of owners counts depths) (judging_of begins commits sets) ≡ turned_to turn.Next n k → Follows hs' n.owners
+      → turned guards i f (state_of owners counts depths) (judging_of begins commits sets) ≡ turned_to (Ok tt) n k → Follows hs' n.owners
       → Inv words guards sets₀ k.sets n.owners n.counts n.depths hs' k.begins k.commits (i + 1)
   turn_next h e t u = record { within = omega arith; follows = u; rest = inv.rest ∙ fused_turn guards words i _ _ h e t }

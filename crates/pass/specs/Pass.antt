@@ -10,8 +10,8 @@ use Rattle.reply.specs.declared.Violation.{Violation}
 use Rattle.soundness.specs.Soundness.{State, check_reply, start}
 use Rattle.instrumented.specs.Rules.{Judging, judging_of}
 use Rattle.turn.specs.Turn.{turned}
-use Rattle.turn.specs.declared.Turn.{Turn}
-use Rattle.turn.specs.declared.Turn.TheVariants as turn
+use Rattle.turn.specs.declared.Stop.{Stop}
+use Rattle.turn.specs.declared.Stop.TheVariants as stop
 use Rattle.pass.specs.declared.Passed.{Passed}
 use Rattle.frame.specs.declared.Refused.{Refused}
 use Rattle.frame.specs.declared.Refusal.{Refusal}
@@ -29,10 +29,10 @@ abbrev pub on_decoded : Result Frame Refusal → ℕ → State → Judging → (
 on_decoded (Ok f) i s j rest = rest f
 on_decoded (Err r) i s j rest = ended (refused r i) s j
 
-abbrev pub on_turn : Turn → ℕ → State → Judging → Ended → Ended
-on_turn turn.Next i s j rest = rest
-on_turn (turn.Refused r) i s j rest = ended (refused r i) s j
-on_turn (turn.Wrong v) i s j rest = ended (violated v) s j
+abbrev pub on_turn : Result Unit Stop → ℕ → State → Judging → Ended → Ended
+on_turn (Ok tt) i s j rest = rest
+on_turn (Err (stop.Refused r)) i s j rest = ended (refused r i) s j
+on_turn (Err (stop.Wrong v)) i s j rest = ended (violated v) s j
 
 -- The frames from place i on: each is refused, goes wrong, which ends the pass, or leads to the next state.
 unfoldable pub judge_from : List ℕ → ℕ → State → Judging → List ℕ → Ended

@@ -10,7 +10,7 @@ ghost use Rattle.pass.specs.Pass.{judgement, sets_left, after_check, earlier, fi
 
 use frame::{LOCKS, MOST, MOST_PLACE, Refusal, Refused, THREADS, VARIABLES};
 use reply::{Reply, Violation};
-use turn::Turn;
+use turn::Stop;
 
 // What a pass answers: the reply, and the first open begin at the end of a recording that is reducible.
 #[derive(Drop)]
@@ -110,10 +110,10 @@ fn run(words: &[u32], guards: &[u8; VARIABLES], sets: &mut [u64; VARIABLES]) -> 
             f,
         );
         match q {
-            Turn::Refused(r) => {
+            Err(Stop::Refused(r)) => {
                 return refused(r, i);
             }
-            Turn::Wrong(v) => {
+            Err(Stop::Wrong(v)) => {
                 let c = soundness::check_from(
                     words,
                     &mut owners,
@@ -123,7 +123,7 @@ fn run(words: &[u32], guards: &[u8; VARIABLES], sets: &mut [u64; VARIABLES]) -> 
                 );
                 return after_check(c, v);
             }
-            Turn::Next => {}
+            Ok(()) => {}
         }
         i += 1;
     }

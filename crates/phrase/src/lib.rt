@@ -7,7 +7,7 @@ ghost use Rattle.std.specs.Prelude.{◌≡◌, ◌++◌, length};
 ghost use Rattle.output.specs.Output.{decimal, behind, written};
 ghost use Rattle.phrase.specs.Phrase.{source_text, line_text, action_text, decoded_text, variable_in};
 
-use frame::{Action, Variable, Frame, Refusal};
+use frame::{Action, Frame, Refusal, Variable};
 use output::{put_byte, put_decimal, put_text};
 
 // What is spoken of.

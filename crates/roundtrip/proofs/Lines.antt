@@ -24,8 +24,6 @@ use Rattle.reply.specs.Reply.{Reply}
 use Rattle.kept.specs.Kept.{kept_by}
 use Rattle.kept.proofs.Laws.{reply_told}
 use Rattle.fields.specs.Fields.{is_kind, no_line, number_in, line_fields, written_line}
-use Rattle.fields.specs.declared.LineReply.{LineReply}
-use Rattle.fields.specs.declared.LineReply.TheVariants as line
 use Rattle.roundtrip.specs.Lines.{read_back, MarkHeld, WrittenMarksRead, Held, fields_back, WrittenLineReads, ReadLineWrites, KeptLinesTell}
 use Rattle.frame.specs.declared.Refused.{Refused}
 
@@ -225,7 +223,7 @@ read_line_writes l f e =
     go true p true q true r false k = no (rw (p, q, r, k) at e)
     go true p true q true r true k =
         let g = fields_again l (eqb-true (length l) line_length p) (eqb-true (get_or l line_end 0) 10 q) r in
-        let z : Ok g ≡ Ok f = rw (p, q, r, k) at e in
+        let z : ◌≡◌ {A = Result Fields Refused} (Ok g) (Ok f) = rw (p, q, r, k) at e in
         let s : g ≡ f = cc in
         rw (← s, k, line_again l (eqb-true (length l) line_length p) (eqb-true (get_or l line_end 0) 10 q) r)
 
@@ -246,7 +244,7 @@ told_kind k f r e = go (ltb k 5) refl (ltb k 129) refl
     go : (a : Bool) → ltb k 5 ≡ a → (b : Bool) → ltb k 129 ≡ b → is_kind k ≡ true
     go true p b q = rw p
     go false p true q =
-        let z : Err (k % 128) ≡ Ok r = rw (ne_eqb k 0 (λ (h : k ≡ 0). omega (arith, h, ltb-false k 5 p)), p, q) at e in never (cc)
+        let z : ◌≡◌ {A = Result Reply ℕ} (Err (k % 128)) (Ok r) = rw (ne_eqb k 0 (λ (h : k ≡ 0). omega (arith, h, ltb-false k 5 p)), p, q) at e in never (cc)
     go false p false q = rw p (lt-ltb 128 k (ltb-false k 129 q))
 
 -- The line of a reply tells it.

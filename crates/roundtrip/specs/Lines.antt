@@ -8,7 +8,6 @@ use Rattle.reply.specs.Reply.{Reply}
 use Rattle.line.specs.Line.{kind_width, place_width, thread_width, locks_width, absent_in, mark_field, field_mark, reply_fields, verdict_line, Exact}
 use Rattle.line.specs.declared.Fields.{Fields}
 use Rattle.fields.specs.Fields.{line_fields, written_line}
-use Rattle.fields.specs.declared.LineReply.TheVariants as line
 use Rattle.kept.specs.Kept.{kept_reply}
 
 -- What a begin or a commit reads back as that is written in n digits: "A begin or commit at 65,535 is written FFFF, and so reads back as absent."
@@ -48,11 +47,11 @@ fields_back f = record {
 
 -- Fields that are written read back.
 abbrev pub WrittenLineReads : Type 0
-WrittenLineReads = (f : Fields) → Held f → (written_line f).reply ≡ line.Written → line_fields (written_line f).line ≡ Ok (fields_back f)
+WrittenLineReads = (f : Fields) (l : List ℕ) → Held f → written_line f ≡ Ok l → line_fields l ≡ Ok (fields_back f)
 
 -- A line that is read is written again, byte for byte.
 abbrev pub ReadLineWrites : Type 0
-ReadLineWrites = (l : List ℕ) (f : Fields) → line_fields l ≡ Ok f → written_line f ≡ record { reply = line.Written; line = l }
+ReadLineWrites = (l : List ℕ) (f : Fields) → line_fields l ≡ Ok f → written_line f ≡ Ok l
 
 -- "The line of a verdict or of a refusal is read into the fields that tell that verdict or refusal": every reply whose places its line tells,
 -- as those of the verdicts are (`RepliesFit`, crate answer).

@@ -1,6 +1,6 @@
 -- The rules leave one verdict on a recording. In this order: the frames before a place lead to one state and one store, a stage holds since
 -- one frame, one violation, the claim.
-use Rattle.std.specs.Prelude.{Ok, Err, Option, Some, None}
+use Rattle.std.specs.Prelude.{Ok, Err, Option, Some, None, Result}
 use Prim.Native.Nat.{ℕ, ◌<◌}
 use mathlib.Core.Path.{◌≡◌, refl, sym, ap, subst, ◌∙◌}
 use mathlib.Core.Bool.{Bool, true, false}
@@ -18,6 +18,7 @@ use Rattle.laws.proofs.Logic.{never}
 use Rattle.rules.specs.Figures.{Stage, Store, Acts, Steps, Reaches, none, more, start_store, InBlock, Committed, StageAfter, Since, MarkIs, lock_set, ToldBy, RulesFixTheReply}
 use Rattle.rules.proofs.Acts.{acted, acts_to}
 use Rattle.rules.proofs.Figures.{to, rule, steps_rule}
+use Rattle.frame.specs.declared.Refusal.{Refusal}
 
 module _ (P : ℕ → Guard) where
   -- a frame leads to one state and one store
@@ -34,7 +35,7 @@ module _ (P : ℕ → Guard) where
   one_place : {s m n : State} {φ ψ χ : Store} {ws : List ℕ} {i : ℕ} → Reaches P s φ ws i m ψ → Reaches P s φ ws i n χ → (m ≡ n) × (ψ ≡ χ)
   one_place none none = (refl, refl)
   one_place (more {ws = ws} {f = f} {i = i} d a r x) (more {m = n} {ψ = χ} {f = g} e b q y) =
-      let z : Ok f ≡ Ok g = sym d ∙ e in
+      let z : ◌≡◌ {A = Result Frame Refusal} (Ok f) (Ok g) = sym d ∙ e in
       let h : f ≡ g = cc in
       let k = one_state h a b in
       let l = one_store h r q in
@@ -67,7 +68,7 @@ of_parts v u a b c d e f = rw (sym a, sym b, sym c, sym d, sym e, sym f)
 -- the rules tell one violation of a kind at a frame
 one_violation : (P : ℕ → Guard) (ws : List ℕ) (v u : Violation) → v.kind ≡ u.kind → v.frame ≡ u.frame → ToldBy P ws v → ToldBy P ws u → v ≡ u
 one_violation P ws v u a p x y =
-    let z : Ok x.frame ≡ Ok y.frame = sym x.word ∙ ap (λ (i : ℕ). decode_word (get_or ws i 0)) p ∙ y.word in
+    let z : ◌≡◌ {A = Result Frame Refusal} (Ok x.frame) (Ok y.frame) = sym x.word ∙ ap (λ (i : ℕ). decode_word (get_or ws i 0)) p ∙ y.word in
     let f : x.frame ≡ y.frame = cc in
     let r = (one_place P x.reached (subst (λ (i : ℕ). Reaches P start start_store ws i y.state y.store) (sym p) y.reached)).1 in
     of_parts v u a p

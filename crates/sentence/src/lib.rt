@@ -7,7 +7,7 @@ ghost use Rattle.std.specs.Prelude.{◌≡◌, length};
 ghost use Rattle.output.specs.Output.{behind, written};
 ghost use Rattle.sentence.specs.Sentence.{piece, known, filled};
 
-use frame::{Thread, Frame, Refusal};
+use frame::{Frame, Refusal, Thread};
 use output::{put_byte, put_decimal, put_locks};
 use phrase::Source;
 

@@ -58,7 +58,7 @@ sound_fits ws e = go (ltb most_frames (length ws)) refl
   where
     go : (t : Bool) → ltb most_frames (length ws) ≡ t → length ws ≤ most_frames
     go true q =
-        let f : Err (refused_at refusal.TooLong most_frames) ≡ (Ok tt) = rw q at e in
+        let f : ◌≡◌ {A = Result Unit Refused} (Err (refused_at refusal.TooLong most_frames)) (Ok tt) = rw q at e in
         never (cc)
     go false q = ltb-false most_frames (length ws) q
 
@@ -77,11 +77,11 @@ sound_first i s w ws c = decode_case (decode_word w) refl
   where
     step_case : (f : Frame) → decode_word w ≡ Ok f → (o : Result Level Refusal) (n : State) → step_frame f s ≡ stepped o n → First i s w ws
     step_case f d (Ok x) n g = record { frame = f; level = x; next = n; is = d; passes = g; rest = rw (d, g) at c }
-    step_case f d (Err b) n g = let y : Err (refused_at b i) ≡ (Ok tt) = rw (d, g) at c in never (cc)
+    step_case f d (Err b) n g = let y : ◌≡◌ {A = Result Unit Refused} (Err (refused_at b i)) (Ok tt) = rw (d, g) at c in never (cc)
 
     decode_case : (x : Result Frame Refusal) → decode_word w ≡ x → First i s w ws
     decode_case (Ok f) d = step_case f d (step_frame f s).outcome (step_frame f s).state refl
-    decode_case (Err b) d = let y : Err (refused_at b i) ≡ (Ok tt) = rw d at c in never (cc)
+    decode_case (Err b) d = let y : ◌≡◌ {A = Result Unit Refused} (Err (refused_at b i)) (Ok tt) = rw d at c in never (cc)
 
 -- no word of a sound recording fails to decode
 no_bad : {A : Type 0} {b : Refusal} (i : ℕ) (s : State) (ws : List ℕ) → (check_from i s ws).reply ≡ (Ok tt)
@@ -89,7 +89,7 @@ no_bad : {A : Type 0} {b : Refusal} (i : ℕ) (s : State) (ws : List ℕ) → (c
 no_bad i s [] c k h d = absurd (omega arith)
 no_bad {b = b} i s (w ∷ ws) c zero h d =
     let q = sound_first i s w ws c in
-    let y : Err b ≡ Ok q.frame = sym d ∙ q.is in
+    let y : ◌≡◌ {A = Result Frame Refusal} (Err b) (Ok q.frame) = sym d ∙ q.is in
     never (cc)
 no_bad i s (w ∷ ws) c (suc k) h d = let q = sound_first i s w ws c in no_bad (i + 1) q.next ws q.rest k (omega arith) d
 
@@ -98,7 +98,7 @@ sound_not_bad ws c = no_bad 0 start ws (sym (check_short ws (sound_fits ws c)) �
 
 -- a refused step is no step on
 no_step : {A : Type 0} {x : Level} (r : Refusal) (s n : State) → stepped (Err r) s ≡ stepped (Ok x) n → A
-no_step {x = x} r s n e = let f : Err r ≡ Ok x = ap (λ (y : Stepped). y.outcome) e in never (cc)
+no_step {x = x} r s n e = let f : ◌≡◌ {A = Result Level Refusal} (Err r) (Ok x) = ap (λ (y : Stepped). y.outcome) e in never (cc)
 
 -- what a step on shows where a test holds it up: the test's answer, and the state that it leads to
 pub spared : {x : Level} (b : Bool) (r : Refusal) (s m n : State) → cond b (stepped (Err r) s) (stepped (Ok Outer) m) ≡ stepped (Ok x) n
@@ -121,7 +121,7 @@ module _ (t : ℕ) (l : Lock) (s : State) where
       let a : y ≡ x = same_level (ap (λ (z : Stepped). z.outcome) e) in
       subst (λ (k : State). P x k) (ap (λ (z : Stepped). z.state) e) (subst (λ (k : Level). P k m) a p)
     where
-      same_level : {x y : Level} → Ok y ≡ Ok x → y ≡ x
+      same_level : {x y : Level} → ◌≡◌ {A = Result Level Refusal} (Ok y) (Ok x) → y ≡ x
       same_level e = cc
 
   pub acquired : {x : Level} {n : State} → step_action t (Acquire l) s ≡ stepped (Ok x) n → Acquired x n

@@ -6,7 +6,9 @@ ghost use Rattle.std.specs.Prelude.{◌≡◌, ◌≤◌, length, drop};
 ghost use Rattle.frame.specs.Frame.{InRange};
 ghost use Rattle.soundness.specs.Soundness.{step_frame, stepped, state_of, outcome_refusal, checked, check_from, check_reply};
 
-use frame::{Action, DEEPEST, Frame, LOCKS, MOST, MOST_HELD, MOST_PLACE, Refusal, Refused, THREADS};
+use frame::{
+    Action, DEEPEST, Frame, LOCKS, MOST, MOST_HELD, MOST_PLACE, Refusal, Refused, THREADS,
+};
 
 // Whether a frame is an inner acquire or release (the field's term is re-entrant), of a lock that its thread holds before and after.
 #[derive(Clone, Copy)]

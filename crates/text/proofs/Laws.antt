@@ -103,7 +103,7 @@ pub data Accepted (s : List ℕ) : ℕ → ℕ → ℕ → Type 0 where
   ends : {k i : ℕ} → length s ≤ 9 * i → Accepted s k i i
   goes : {k i n : ℕ} (w : ℕ) → line_of s (9 * i) ≡ Some w → Accepted s k (i + 1) n → Accepted s (suc k) i n
 
-ended : (s : List ℕ) (k i n : ℕ) → length s ≤ 9 * i → Ok i ≡ Ok n → Accepted s k i n
+ended : (s : List ℕ) (k i n : ℕ) → length s ≤ 9 * i → ◌≡◌ {A = Result ℕ Refused} (Ok i) (Ok n) → Accepted s k i n
 ended s k i n h e = let q : i ≡ n = cc in rw (← q) (ends h)
 
 pub accepted : (k : ℕ) (s : List ℕ) (i n : ℕ) → scan_from k s i ≡ Ok n → Accepted s k i n
@@ -112,13 +112,13 @@ accepted zero s i n e = go (leb (length s) (9 * i)) refl
   where
     go : (t : Bool) → leb (length s) (9 * i) ≡ t → Accepted s zero i n
     go true q = ended s zero i n (leb-true (length s) (9 * i) q) (rw q at e)
-    go false q = let f : Err (refused_at refusal.TooLong most_frames) ≡ Ok n = rw q at e in never (cc)
+    go false q = let f : ◌≡◌ {A = Result ℕ Refused} (Err (refused_at refusal.TooLong most_frames)) (Ok n) = rw q at e in never (cc)
 accepted (suc k) s i n e = go (accepted k s (i + 1) n) (leb (length s) (9 * i)) refl (line_of s (9 * i)) refl
   where
     go : (scan_from k s (i + 1) ≡ Ok n → Accepted s k (i + 1) n) → (t : Bool) → leb (length s) (9 * i) ≡ t → (l : Option ℕ) → line_of s (9 * i) ≡ l → Accepted s (suc k) i n
     go ih true q l p = ended s (suc k) i n (leb-true (length s) (9 * i) q) (rw q at e)
     go ih false q (Some w) p = goes w p (ih (rw (q, p) at e))
-    go ih false q None p = let f : Err (refused_at refusal.Line i) ≡ Ok n = rw (q, p) at e in never (cc)
+    go ih false q None p = let f : ◌≡◌ {A = Result ℕ Refused} (Err (refused_at refusal.Line i)) (Ok n) = rw (q, p) at e in never (cc)
 
 -- an accepted text is as long as its lines
 pub accepted_length : {s : List ℕ} {k i n : ℕ} → 9 * i ≤ length s → Accepted s k i n → 9 * n ≡ length s
@@ -163,10 +163,10 @@ module _ (s : List ℕ) (n : ℕ) (e : scanned s ≡ Ok n) where
 room : (m n : ℕ) (q : Result ℕ Refused) → room_reply m q ≡ Ok n → (n ≤ m) × (q ≡ Ok n)
 room m n (Ok k) e = go (ltb m k) refl
   where
-    go : (t : Bool) → ltb m k ≡ t → (n ≤ m) × (Ok k ≡ Ok n)
-    go true q = let f : Err (refused_at refusal.WordBuffer k) ≡ Ok n = rw q at e in never (cc)
+    go : (t : Bool) → ltb m k ≡ t → (n ≤ m) × (◌≡◌ {A = Result ℕ Refused} (Ok k) (Ok n))
+    go true q = let f : ◌≡◌ {A = Result ℕ Refused} (Err (refused_at refusal.WordBuffer k)) (Ok n) = rw q at e in never (cc)
     go false q =
-        let f : Ok k ≡ Ok n = rw q at e in
+        let f : ◌≡◌ {A = Result ℕ Refused} (Ok k) (Ok n) = rw q at e in
         let g : k ≡ n = cc in
         (omega (arith, ltb-false m k q), f)
 room m n (Err r) e = never (cc)

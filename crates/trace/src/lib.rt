@@ -11,7 +11,7 @@ ghost use Rattle.verdict.specs.Verdict.{verdict_under, inferred_reply};
 ghost use Rattle.trace.specs.Trace.{read_answer, guards_answer, kind_answer, line_after, sets_after};
 ghost use Rattle.answer.specs.Answer.{text_judged};
 
-use guards::{Judgement};
+use guards::Judgement;
 
 // The bytes of a verdict line, and the kind where a line buffer has fewer: 80 hexadecimal plus 17.
 const LINE: usize = line::LINE;

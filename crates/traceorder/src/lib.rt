@@ -10,7 +10,7 @@ ghost use Rattle.moves.specs.Moves.{moves_under, moves_out_under};
 ghost use Rattle.unitcommits.specs.UnitCommits.{commits_under, commits_out_under};
 ghost use Rattle.traceorder.specs.Answers.{packed_side, equal_answer, order_answer};
 
-use equal::{EqualReply, Side};
+use equal::Side;
 use frame::Refused;
 use guards::Judgement;
 
@@ -30,9 +30,9 @@ pub fn trace_equal(left: &[u32], right: &[u32]) -> u64
 {
     let q = equal::equal(left, right);
     match q {
-        EqualReply::Equal => 1,
-        EqualReply::Different => 0,
-        EqualReply::Refused(side, x) => pack_side(side, x),
+        Ok(true) => 1,
+        Ok(false) => 0,
+        Err(x) => pack_side(x.side, x.refused),
     }
 }
 

@@ -7,8 +7,6 @@ use Rattle.frame.specs.declared.Refusal.TheVariants as refusal
 use Rattle.line.specs.Line.{place_width, line_length, mark_field, field_mark}
 use Rattle.line.specs.declared.Fields.{Fields}
 use Rattle.fields.specs.Fields.{written_line}
-use Rattle.fields.specs.declared.LineReply.{LineReply}
-use Rattle.fields.specs.declared.LineReply.TheVariants as line
 use Rattle.reply.specs.Reply.{packed}
 use Rattle.frame.specs.declared.Refused.{Refused}
 
@@ -50,18 +48,18 @@ abbrev pub given : ℕ → ℕ → ℕ → ℕ → ℕ → ℕ → Fields
 given k f t b c l = record { kind = k; frame = f; thread = t; begin = field_mark place_width b; commit = field_mark place_width c; locks = l }
 
 -- The bytes written, or the refusal.
-abbrev pub line_answer : LineReply → ℕ
-line_answer line.Written = line_length
-line_answer (line.Refused r) = packed r
+abbrev pub line_answer : Result (List ℕ) Refused → ℕ
+line_answer (Ok l) = line_length
+line_answer (Err r) = packed r
 
 -- "17: shorter than 33 bytes; 33; line buffer, first of all": writing fields into a buffer of n bytes.
 abbrev pub write_line_answer : Fields → ℕ → ℕ
-write_line_answer f n = cond (ltb n line_length) (packed (refused_at refusal.LineBuffer line_length)) (line_answer (written_line f).reply)
+write_line_answer f n = cond (ltb n line_length) (packed (refused_at refusal.LineBuffer line_length)) (line_answer (written_line f))
 
-abbrev pub line_over : LineReply → List ℕ → List ℕ → List ℕ
-line_over line.Written l buffer = l ++ drop line_length buffer
-line_over (line.Refused r) l buffer = buffer
+abbrev pub line_over : Result (List ℕ) Refused → List ℕ → List ℕ
+line_over (Ok l) buffer = l ++ drop line_length buffer
+line_over (Err r) buffer = buffer
 
 -- The first bytes of the buffer are the line; a refusal writes nothing.
 abbrev pub write_line_after : Fields → List ℕ → List ℕ
-write_line_after f buffer = cond (ltb (length buffer) line_length) buffer (line_over (written_line f).reply (written_line f).line buffer)
+write_line_after f buffer = cond (ltb (length buffer) line_length) buffer (line_over (written_line f) buffer)

@@ -8,7 +8,7 @@ ghost use Rattle.writer.specs.Writer.{write_reply, text_after};
 ghost use Rattle.fields.specs.Fields.{line_fields};
 ghost use Rattle.tracetext.specs.Texts.{write_answer, fields_answer, left, kind_of, frame_of, thread_of, begin_of, commit_of, locks_of, given, write_line_answer, write_line_after};
 
-use fields::{LineReply, field_mark};
+use fields::field_mark;
 use frame::{Refusal, Refused};
 use line::{Fields, LINE, mark_field};
 
@@ -89,13 +89,11 @@ pub fn trace_line_write(
         commit: field_mark(commit),
         locks: locks,
     });
-    let q = w.reply;
-    match q {
-        LineReply::Written => {
-            let l = w.line;
+    match w {
+        Ok(l) => {
             line::put_line(line, l);
             LINE as u64
         }
-        LineReply::Refused(x) => reply::pack(x),
+        Err(x) => reply::pack(x),
     }
 }

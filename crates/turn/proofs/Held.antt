@@ -26,7 +26,7 @@ use Rattle.instrumented.specs.Rules.{Judging, judged, judge_operation}
 use Rattle.instrumented.specs.Held.{held_set, Holdable, held, Follows}
 use Rattle.judge.proofs.Held.{mine, mine_other, held_lt, held_none, held_same, held_take, held_free}
 use Rattle.judge.proofs.Laws.{access_fits, access_holds}
-use Rattle.turn.specs.declared.Turn.TheVariants as turn
+use Rattle.turn.specs.declared.Stop.TheVariants as stop
 use Rattle.turn.specs.Turn.{turned, turned_to, by_verdict}
 
 -- a store to the held sets
@@ -118,5 +118,5 @@ module _ (guards counts depths : List ℕ) {owners hs : List ℕ} (fs : Follows 
 
   -- one that does not is refused
   pub turn_refused : (i : ℕ) (j : Judging) {n : State} {b : Refusal} → step_frame f here ≡ stepped (Err b) n
-      → turned guards i f here j ≡ turned_to (turn.Refused b) n j
+      → turned guards i f here j ≡ turned_to (Err (stop.Refused b)) n j
   turn_refused i j g = rw g

@@ -9,16 +9,16 @@ use Rattle.soundness.specs.Soundness.{State, stepped, step_frame}
 use Rattle.soundness.specs.declared.Level.{Level}
 use Rattle.instrumented.specs.Rules.{Judging, judged}
 use Rattle.judge.proofs.Laws.{wrong_keeps}
-use Rattle.turn.specs.declared.Turn.{Turn}
-use Rattle.turn.specs.declared.Turn.TheVariants as turn
+use Rattle.turn.specs.declared.Stop.{Stop}
+use Rattle.turn.specs.declared.Stop.TheVariants as stop
 use Rattle.turn.specs.Turn.{judge_frame, turned, turned_to}
 use Rattle.frame.specs.declared.Refusal.{Refusal}
 
 -- A frame that is refused or goes wrong leaves where the threads stand as it was.
-abbrev pub Kept : Turn → Judging → Judging → Type 0
-Kept turn.Next j k = Unit {0}
-Kept (turn.Refused r) j k = k ≡ j
-Kept (turn.Wrong v) j k = k ≡ j
+abbrev pub Kept : Result Unit Stop → Judging → Judging → Type 0
+Kept (Ok tt) j k = Unit {0}
+Kept (Err (stop.Refused r)) j k = k ≡ j
+Kept (Err (stop.Wrong v)) j k = k ≡ j
 
 module _ (guards : List ℕ) (i : ℕ) (f : Frame) (s : State) (j : Judging) where
   keeps : Kept (turned guards i f s j).turn j (turned guards i f s j).judging
@@ -33,5 +33,5 @@ module _ (guards : List ℕ) (i : ℕ) (f : Frame) (s : State) (j : Judging) whe
       step_case (Ok x) n g = judge_case x n g (judge_frame guards i f s j).verdict (judge_frame guards i f s j).judging refl
       step_case (Err r) n g = rw g refl
 
-  pub turn_keeps : {q : Turn} {n : State} {k : Judging} → turned guards i f s j ≡ turned_to q n k → Kept q j k
+  pub turn_keeps : {q : Result Unit Stop} {n : State} {k : Judging} → turned guards i f s j ≡ turned_to q n k → Kept q j k
   turn_keeps e = rw e at keeps

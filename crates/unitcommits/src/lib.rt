@@ -5,11 +5,15 @@
 ghost use Rattle.std.specs.Prelude.{◌≡◌};
 ghost use Rattle.unitcommits.specs.UnitCommits.{checked_reply, checked_out, commits_under, commits_out_under};
 
-use frame::{VARIABLES, Refused};
-use guards::{Judgement};
+use frame::{Refused, VARIABLES};
+use guards::Judgement;
 
 // The commits under a table of guards: the check, and the walk, which writes.
-fn under_guards(words: &[u32], guards: &[u8; VARIABLES], commits: &mut [u32]) -> Result<u32, Refused>
+fn under_guards(
+    words: &[u32],
+    guards: &[u8; VARIABLES],
+    commits: &mut [u32],
+) -> Result<u32, Refused>
     ensures reply { result ≡ checked_reply words.now }
     ensures contents { commits.new ≡ checked_out guards.now words.now commits.old }
 {
@@ -24,7 +28,12 @@ fn under_guards(words: &[u32], guards: &[u8; VARIABLES], commits: &mut [u32]) ->
 }
 
 // The commits by a judgement. Where guards are inferred, the list is not read.
-pub fn commits(j: Judgement, list: &[u8], words: &[u32], commits: &mut [u32]) -> Result<u32, Refused>
+pub fn commits(
+    j: Judgement,
+    list: &[u8],
+    words: &[u32],
+    commits: &mut [u32],
+) -> Result<u32, Refused>
     ensures reply { result ≡ commits_under j list.now words.now }
     ensures contents { commits.new ≡ commits_out_under j list.now words.now commits.old }
 {

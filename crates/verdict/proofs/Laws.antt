@@ -59,7 +59,7 @@ verdict_fits j list ws v e = go (guards_under j list).reply refl
     go : (q : Result ℕ Refused) → (guards_under j list).reply ≡ q → length ws ≤ most_frames
     go (Ok n) f = judgement_fits (guards_under j list).table full_sets ws v (rw f at e)
     go (Err x) f =
-        let g : Err x ≡ Ok v = rw f at e in
+        let g : ◌≡◌ {A = Reply} (Err x) (Ok v) = rw f at e in
         never (cc)
 
 pub inferred_fits : (ws : List ℕ) (n : ℕ) (v : Verdict) → inferred_reply ws n ≡ Ok v → length ws ≤ most_frames
@@ -69,5 +69,5 @@ inferred_fits ws n v e = go (inferred_end ws).reply refl
     go : (r : Reply) → (inferred_end ws).reply ≡ r → length ws ≤ most_frames
     go (Ok w) f = judgement_fits inferred_guards full_sets ws w f
     go (Err x) f =
-        let g : Err x ≡ Ok v = rw f at e in
+        let g : ◌≡◌ {A = Reply} (Err x) (Ok v) = rw f at e in
         never (cc)

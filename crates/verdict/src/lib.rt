@@ -8,7 +8,7 @@ ghost use Rattle.verdict.specs.Verdict.{guards_refused, verdict_under, inferred_
 
 use frame::{ALL_LOCKS, Refusal, Refused, VARIABLES};
 use guards::{INFERRED, Judgement};
-use reply::{Reply};
+use reply::Reply;
 
 // The entries of a table of candidate sets, as a place.
 const VARIABLE_COUNT: u32 = VARIABLES as u32;

@@ -28,7 +28,14 @@ fn say_kind(out: &mut [u8], at: usize, kind: Kind, f: Facts) -> usize
 }
 
 // The thread's block. Here and below: whether the frame is known.
-fn say_block(out: &mut [u8], at: usize, begin: Option<u32>, commit: Option<u32>, known: bool, f: Facts) -> usize
+fn say_block(
+    out: &mut [u8],
+    at: usize,
+    begin: Option<u32>,
+    commit: Option<u32>,
+    known: bool,
+    f: Facts,
+) -> usize
     ensures place { result ≡ behind (length out.old) at (filled f (bytes (block_sentence begin commit known))) }
     ensures contents { out.new ≡ written out.old at (filled f (bytes (block_sentence begin commit known))) }
 {

@@ -48,7 +48,11 @@ pub fn write_order(words: &[u32], guards: &[u8; VARIABLES], out: &mut [u32]) -> 
 }
 
 // The displacements of a sound recording's frames, those of each unit where it commits.
-pub fn write_moves(words: &[u32], guards: &[u8; VARIABLES], moves: &mut [i32]) -> Result<(), Refused>
+pub fn write_moves(
+    words: &[u32],
+    guards: &[u8; VARIABLES],
+    moves: &mut [i32],
+) -> Result<(), Refused>
     requires fact_1 { check_reply words.now ≡ (Ok tt) }
     requires fact_2 { length words.now ≤ length moves.old }
     requires fact_3 { length (walk_of guards.now words.now (places words.now)) ≤ most_frames }
