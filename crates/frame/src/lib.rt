@@ -5,7 +5,7 @@
 
 ghost use Rattle.std.specs.Prelude.{◌≡◌, true};
 ghost use Rattle.frame.specs.Frame.{object_fits, action_of, decode_word, split_word, encode_frame, word_of};
-ghost use Rattle.frame.specs.Refusal.{refusal_number, refusal_named};
+ghost use Rattle.frame.specs.Refusal.{refusal_number, refused_at, refusal_named};
 
 // The limits of a recording: its threads, locks, variables and frames, the blocks that a thread may have open, and how often it may hold a
 // lock.
@@ -197,6 +197,17 @@ impl From<Frame> for u32 {
             Action::Write(Variable(v)) => word_of(4, t, v),
             Action::Begin => word_of(5, t, 0),
             Action::End => word_of(6, t, 0),
+        }
+    }
+}
+
+impl Refusal {
+    pub fn at(self, place: u32) -> Refused
+        ensures { result ≡ refused_at self place }
+    {
+        Refused {
+            reason: self,
+            place,
         }
     }
 }
