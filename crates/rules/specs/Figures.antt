@@ -19,7 +19,8 @@ use Rattle.frame.specs.declared.Refusal.TheVariants as refusal
 use Rattle.guards.specs.Guards.{guard_of, guards_read, listed_guard}
 use Rattle.guards.specs.declared.Guard.{Guard}
 use Rattle.guards.specs.declared.Guard.TheVariants.{Locked, Unprotected, Inferred}
-use Rattle.soundness.specs.Soundness.{State, state_of, owner_of, count_of, with_count, with_owner, stepped, step_frame, check_from, check_reply, start}
+use Rattle.soundness.specs.Soundness.{state_of, owner_of, count_of, with_count, with_owner, stepped, step_frame, check_from, check_reply, start}
+use Rattle.soundness.specs.declared.State.{State}
 use Rattle.soundness.specs.declared.Level.{Level}
 use Rattle.reply.specs.Reply.{reducible, violated, Reply, Verdict}
 use Rattle.reply.specs.declared.Kind.{Kind}
