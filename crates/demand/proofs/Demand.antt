@@ -20,7 +20,7 @@ use Rattle.frame.specs.declared.Refused.{Refused}
 use Rattle.frame.specs.declared.Refusal.{Refusal}
 use Rattle.frame.specs.declared.Refusal.TheVariants as refusal
 use Rattle.guards.specs.Guards.{guards_under}
-use Rattle.guards.specs.declared.Judgement.{Judgement}
+use Rattle.guards.specs.Judgement.{Judgement}
 use Rattle.soundness.proofs.Laws.{check_short, sound_fits, sound_first}
 use Rattle.soundness.specs.Soundness.{stepped, step_frame, check_from, check_reply, start}
 use Rattle.soundness.specs.declared.State.{State}

@@ -5,8 +5,7 @@
 ghost use Rattle.std.specs.Prelude.{◌≡◌, ◌++◌, ◌≤◌, length, drop};
 ghost use Rattle.line.specs.Line.{place_width, mark_field, line_mark, bare_fields, reply_fields, held_place, held_mark, held_fields, line_length, fields_line, verdict_line};
 
-use frame::refusal_number;
-use reply::{Reply, kind_number};
+use reply::Reply;
 
 // The digits of the fields: of a kind, of a frame, a begin or a commit, of a thread, of the locks.
 pub const KIND_WIDTH: usize = 2;
@@ -100,7 +99,7 @@ pub fn reply_fields(r: Reply, frames: u32) -> Fields
     match r {
         Err(x) => {
             let reason = x.reason;
-            bare_fields(128 + refusal_number(reason), x.place)
+            bare_fields(128 + u8::from(reason), x.place)
         }
         Ok(v) => match v {
             Ok(()) => bare_fields(0, frames),
@@ -109,7 +108,7 @@ pub fn reply_fields(r: Reply, frames: u32) -> Fields
                 let begin = w.begin;
                 let commit = w.commit;
                 Fields {
-                    kind: kind_number(kind),
+                    kind: u8::from(kind),
                     frame: held_place(w.frame),
                     thread: w.thread.0,
                     begin: line_mark(begin),

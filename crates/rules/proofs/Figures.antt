@@ -13,7 +13,7 @@ use native.Mathlib.Numerals.{add-one}
 use borrow.Author.Tests.{eq-eqb, ne_eqb, le-ltb, le-leb, lt-leb}
 use lib.Dec.{eqb, leb}
 use lib.ListN.{get_or, drop, length-replicate, get_or-replicate}
-use Rattle.guards.specs.declared.Judgement.TheVariants.{Declared}
+use Rattle.guards.specs.Judgement.{Declared}
 use Rattle.verdict.specs.Verdict.{verdict_under, with_table, inferred_reply}
 use Rattle.turn.specs.Turn.{judge_frame}
 use Rattle.pass.specs.Pass.{Ended, full_sets, judge_from, start_judging, judgement}

@@ -7,7 +7,7 @@
 -- Quotes are from docs/FORMAT.md, but for those of the paper's sections 2.2 and 4.3 and figures.
 use Rattle.std.specs.Prelude.{ℕ, suc, ◌+◌, ◌-◌, ◌^◌, ◌≤◌, ◌<◌, ◌≡◌, cond, ◌↔◌, ◌⊎◌, List, [], ◌∷◌, eqb, get_or, set, Ok, Err, Option, Some, None}
 use Rattle.std.specs.Int.Bits.{bit_and}
-use Rattle.guards.specs.declared.Judgement.TheVariants.{Declared}
+use Rattle.guards.specs.Judgement.{Declared}
 use Rattle.frame.specs.Limits.{lock_count, variable_count, deepest, most_held}
 use Rattle.frame.specs.Frame.{decode_word}
 use Rattle.frame.specs.declared.Lock.{Lock}
