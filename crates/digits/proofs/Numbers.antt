@@ -1,20 +1,19 @@
 -- Bytes as values of digits, and the numbers that these make. In this order: one byte, told by its distance from A and from 0; the turns of the
 -- loops; what all values together say, over any number of digits.
-use Prim.Native.Nat.{ℕ, zero, suc, ◌+◌, ◌-◌, ◌*◌, ◌/◌, ◌%◌, ◌^◌, ◌≤◌, ◌<◌}
+use Prim.Native.Nat.{ℕ, zero, suc, ◌+◌, ◌*◌, ◌/◌, ◌%◌, ◌^◌, ◌≤◌, ◌<◌}
 use mathlib.Core.Path.{◌≡◌, refl, ap, ◌∙◌}
 use mathlib.Core.Bool.{Bool, true, false}
 use mathlib.Core.List.{List, [], ◌∷◌, ◌++◌}
 use native.Mathlib.Omega.{arith}
 use native.Mathlib.Numerals.{add-one}
-use native.Mathlib.Nat.{add-zero, sub-zero, pow-suc, pow-le-pow_right}
+use native.Mathlib.Nat.{pow-suc, pow-le-pow_right}
 use lib.ListN.{length, get_or, take, drop, set}
-use lib.Seq.{take-suc, length-take-le}
+use lib.Seq.{take-suc, drop-cons, length-take-le}
 use borrow.Author.Tests.{lt-ltb, le-ltb, ltb-true, ltb-false}
 use lib.Dec.{ltb}
 use Rattle.laws.proofs.Logic.{never}
 use Rattle.laws.proofs.Lists.{front_next}
 use Rattle.digits.specs.Digits.{Digits, value, none, letter_of, digit_of, digits_value, all_digits, values_of, others, joined, DigitValues}
-use Rattle.digits.proofs.Sums.{next_byte}
 
 -- the distance of a byte from A and from 0, counted round
 pub letter_near : (b : ℕ) → b < 256 → (b + 191) % 256 < 6 → (b + 191) % 256 + 10 ≡ letter_of b
@@ -84,20 +83,10 @@ value_more s out₀ out k d h l is e =
 pub count_more : (s : List ℕ) (k d n : ℕ) → k < length s → d ≡ digit_of (get_or s k 0) → n ≡ others (take k s) → n + d / 16 ≡ others (take (k + 1) s)
 count_more s k d n h is e = rw (add-one k, take-suc s k 0 h, others_behind (take k s) (get_or s k 0), e, is)
 
--- the number of n values from the k-th on, behind v
-abbrev pub joined_from : List ℕ → ℕ → ℕ → ℕ → ℕ → ℕ
-joined_from d at n v k = joined v (take (n - k) (drop (at + k) d))
-
-pub joined_all : (d : List ℕ) (at n : ℕ) → joined 0 (take n (drop at d)) ≡ joined_from d at n 0 0
-joined_all d at n = simp (add-zero, sub-zero)
-
-pub joined_more : (d : List ℕ) (at n v k : ℕ) → k < n → at + n ≤ length d → joined_from d at n v k ≡ joined_from d at n (v * 16 + get_or d (at + k) 0) (k + 1)
+-- the number of the values from the k-th on, behind v
+pub joined_more : (d : List ℕ) (v k : ℕ) → k < length d → joined v (drop k d) ≡ joined (v * 16 + get_or d k 0) (drop (k + 1) d)
 unfolding joined
-joined_more d at n v k more fits = rw (next_byte d at n k more fits)
-
-pub joined_end : (d : List ℕ) (at n v k : ℕ) → n ≤ k → joined_from d at n v k ≡ v
-unfolding joined
-joined_end d at n v k h = let z : n - k ≡ 0 = omega arith in rw z
+joined_more d v k h = rw (drop-cons d k 0, add-one k)
 
 -- a value of k digits, and one more
 pub wider : (v k d : ℕ) → v < 16 ^ k → d ≤ 15 → v * 16 + d < 16 ^ (k + 1)

@@ -1,12 +1,12 @@
 -- Eight digits by one sum: each byte that is no digit counts 2^32, so the sum is below 2^32 exactly if all eight are digits.
-use Prim.Native.Nat.{ℕ, suc, ◌+◌, ◌-◌, ◌*◌, ◌^◌, ◌≤◌, ◌<◌}
+use Prim.Native.Nat.{ℕ, ◌+◌, ◌*◌, ◌^◌, ◌≤◌, ◌<◌}
 use mathlib.Core.Path.{◌≡◌, refl, ◌∙◌}
 use mathlib.Core.Bool.{Bool, true, false}
 use mathlib.Core.List.{List, [], ◌∷◌}
 use native.Mathlib.Omega.{arith}
 use native.Mathlib.Numerals.{add-one}
 use native.Mathlib.Nat.{pow-suc, pow-le-pow_right, mul-le-mul_right, mul_assoc, lt_of_lt_of_le, pow-succ'}
-use lib.ListN.{length, get_or, take, drop, length-take, length-drop}
+use lib.ListN.{length, get_or, drop}
 use lib.Seq.{drop-cons}
 use lib.Dec.{ltb}
 use borrow.Author.Tests.{lt-ltb, le-ltb, ltb-false}
@@ -53,28 +53,15 @@ value_bound b = go (ltb 15 (digit_of b)) refl
 pub value_fits : (b d : ℕ) → d ≡ value_of b → d ≤ 4294967296
 value_fits b d e = rw e (value_bound b)
 
--- the bytes of a field of n digits from its k-th on: the first of them, and the others
-pub next_byte : (s : List ℕ) (at n k : ℕ) → k < n → at + n ≤ length s
-    → take (n - k) (drop (at + k) s) ≡ get_or s (at + k) 0 ∷ take (n - (k + 1)) (drop (at + (k + 1)) s)
-next_byte s at n k more fits =
-    let h : at + k < length s = omega arith in
-    let w : n - k ≡ suc (n - (k + 1)) = omega arith in
-    let m : suc (at + k) ≡ at + (k + 1) = omega arith in
-    rw (w, drop-cons s (at + k) 0 h, m)
-
--- one byte of a field: the next place, with the sum so far
-pub sum_turn : (s : List ℕ) (at v k d : ℕ) → k < 8 → at + 8 ≤ length s → d ≡ value_of (get_or s (at + k) 0)
-    → sum_from v (take (8 - k) (drop (at + k) s)) ≡ sum_from (v * 16 + d) (take (8 - (k + 1)) (drop (at + (k + 1)) s))
+-- one byte: the next place, with the sum so far
+pub sum_more : (s : List ℕ) (v k d : ℕ) → k < length s → d ≡ value_of (get_or s k 0)
+    → sum_from v (drop k s) ≡ sum_from (v * 16 + d) (drop (k + 1) s)
 unfolding sum_from
-sum_turn s at v k d more fits is = rw (next_byte s at 8 k more fits, is)
-
-pub sum_end : (s : List ℕ) (n v : ℕ) → sum_from v (take 0 (drop n s)) ≡ v
-unfolding sum_from
-sum_end s n v = refl
+sum_more s v k d h is = rw (drop-cons s k 0, add-one k, is)
 
 -- the bound of a sum of k values
-pub sum_more : (v k d : ℕ) → 15 * v + 4294967296 ≤ 4294967296 * 16 ^ k → d ≤ 4294967296 → 15 * (v * 16 + d) + 4294967296 ≤ 4294967296 * 16 ^ (k + 1)
-sum_more v k d a b = rw (add-one k, pow-suc 16 k) (omega arith)
+pub bound_more : (v k d : ℕ) → 15 * v + 4294967296 ≤ 4294967296 * 16 ^ k → d ≤ 4294967296 → 15 * (v * 16 + d) + 4294967296 ≤ 4294967296 * 16 ^ (k + 1)
+bound_more v k d a b = rw (add-one k, pow-suc 16 k) (omega arith)
 
 pub power_below : (k : ℕ) → k ≤ 7 → 16 ^ k ≤ 268435456
 power_below k h = pow-le-pow_right {n = 16} (omega arith) h
@@ -96,19 +83,16 @@ digits_bound v (b ∷ bs) r e = rw (pow-succ' 16 (length bs)) (go (digits_bound 
         let f : digits_value (v * 16 + digit_of b) bs ≡ value r = rw q at e in
         bound_step v (digit_of b) (16 ^ length bs) r (ltb-false 15 (digit_of b) q) (ih f)
 
-pub word_bound : (s : List ℕ) (at r : ℕ) → at + 8 ≤ length s → digits_value 0 (take 8 (drop at s)) ≡ value r → r < 4294967296
-word_bound s at r h e =
-    let n : length (take 8 (drop at s)) ≡ 8 = simp (length-take, length-drop) (omega arith) in
-    let b : r < (0 + 1) * 16 ^ length (take 8 (drop at s)) = digits_bound 0 (take 8 (drop at s)) r e in
-    let g : r < 1 * 16 ^ 8 = rw n at b in
+word_bound : (bs : List ℕ) (r : ℕ) → length bs ≡ 8 → digits_value 0 bs ≡ value r → r < 4294967296
+word_bound bs r h e =
+    let b = digits_bound 0 bs r e in
+    let g : r < 1 * 16 ^ 8 = rw h at b in
     omega arith
 
 -- eight digits, by their sum
-pub eight : (s : List ℕ) (at : ℕ) → at + 8 ≤ length s → digits_value 0 (take 8 (drop at s)) ≡ digits_of_sum (sum_from 0 (take 8 (drop at s)))
-eight s at h = go (digits_value 0 (take 8 (drop at s))) refl
+pub eight : (bs : List ℕ) → length bs ≡ 8 → digits_value 0 bs ≡ digits_of_sum (sum_from 0 bs)
+eight bs h = go (digits_value 0 bs) refl
   where
-    go : (x : Digits) → digits_value 0 (take 8 (drop at s)) ≡ x → digits_value 0 (take 8 (drop at s)) ≡ digits_of_sum (sum_from 0 (take 8 (drop at s)))
-    go (value r) e =
-        let b : r < 4294967296 = word_bound s at r h e in
-        e ∙ rw (sum_value 0 (take 8 (drop at s)) r e, le-ltb 4294967295 r (omega arith))
-    go none e = e ∙ rw (lt-ltb 4294967295 (sum_from 0 (take 8 (drop at s))) (omega (arith, sum_not 0 (take 8 (drop at s)) e)))
+    go : (x : Digits) → digits_value 0 bs ≡ x → digits_value 0 bs ≡ digits_of_sum (sum_from 0 bs)
+    go (value r) e = e ∙ rw (sum_value 0 bs r e, le-ltb 4294967295 r (omega (arith, word_bound bs r h e)))
+    go none e = e ∙ rw (lt-ltb 4294967295 (sum_from 0 bs) (omega (arith, sum_not 0 bs e)))

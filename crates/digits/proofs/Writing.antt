@@ -4,9 +4,9 @@ use mathlib.Core.Path.{◌≡◌, refl, sym, ap, ◌∙◌}
 use mathlib.Core.List.{List, [], ◌∷◌, ◌++◌, append_assoc}
 use native.Mathlib.Omega.{arith}
 use native.Mathlib.Numerals.{add-one}
-use native.Mathlib.Nat.{add-zero, pow-succ', mod-lt, mod-eq_of_lt, div-add-mod, add-mul-mod_self_left, one-le-pow, mul_assoc}
-use lib.ListN.{length, take, drop, set, length-append, take-append-drop}
-use lib.Seq.{take-set-le, append_snoc, take_at, drop_at, drop-drop, length-take-le}
+use native.Mathlib.Nat.{pow-succ', mod-lt, mod-eq_of_lt, div-add-mod, add-mul-mod_self_left, one-le-pow, mul_assoc}
+use lib.ListN.{length, take, drop, set, length-append}
+use lib.Seq.{append_snoc, take_at, drop_at, drop-drop, length-take-le}
 use Rattle.laws.proofs.Lists.{drop_stored, front_next}
 use Rattle.digits.specs.Digits.{byte_of, digits, pasted, word_line, lines_of, too_wide}
 
@@ -47,20 +47,12 @@ unfolding lines_of
 length_lines [] = refl
 length_lines (w ∷ ws) = omega (arith, length-append (word_line w) (lines_of ws), length_word_line w, length_lines ws)
 
--- nothing left to paste
-pub pasted_none : (s : List ℕ) (at v : ℕ) → pasted s at 0 (digits 0 v) ≡ s
+-- the last digit is stored, and the others are left before it
+pub digit_stored : (s : List ℕ) (k v b : ℕ) → k < length s → b ≡ byte_of (v % 16)
+    → digits k (v / 16) ++ drop k (set s k b) ≡ digits (k + 1) v ++ drop (k + 1) s
 unfolding digits
-pasted_none s at v = rw (add-zero at) (take-append-drop at s)
-
--- the last digit is stored, and the others are pasted before it
-pub pasted_digit : (s : List ℕ) (at k v b : ℕ) → at + k < length s → b ≡ byte_of (v % 16)
-    → pasted (set s (at + k) b) at k (digits k (v / 16)) ≡ pasted s at (k + 1) (digits (k + 1) v)
-unfolding digits
-pasted_digit s at k v b h e =
-    let a : take at (set s (at + k) b) ≡ take at s = take-set-le at s (at + k) b (omega arith) in
-    let d : drop (at + k) (set s (at + k) b) ≡ b ∷ drop (suc (at + k)) s = drop_stored s (at + k) b h in
-    let m : at + (k + 1) ≡ suc (at + k) = omega arith in
-    rw (a, d, m, add-one k, e, append_snoc (digits k (v / 16)) (byte_of (v % 16)) (drop (suc (at + k)) s))
+digit_stored s k v b h e =
+    rw (drop_stored s k b h, add-one k, e, append_snoc (digits k (v / 16)) (byte_of (v % 16)) (drop (suc k) s))
 
 -- digits written behind what is written already: `s` is the buffer at first, `o` and `p` before and after
 pub pasted_next : (s ys xs o p : List ℕ) (at n : ℕ) → length ys ≡ at

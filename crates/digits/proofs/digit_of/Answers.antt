@@ -7,5 +7,5 @@ use Rattle.digits.proofs.digit_of.Goals as goal
 pub returns-then-from-lt10 : goal.returns-then-from-lt10
 returns-then-from-lt10 c = digit_near c.args.b (search rules) c.if-from-lt10.true
 
-pub returns : goal.returns
-returns c = c.letter_of-letter.ensures ∙ digit_far c.args.b (search rules) c.if-from-lt10.false
+pub returns-else-from-lt10 : goal.returns-else-from-lt10
+returns-else-from-lt10 c = c.letter_of-letter.ensures ∙ digit_far c.args.b (search rules) c.if-from-lt10.false
