@@ -5,6 +5,7 @@
 ghost use Rattle.std.specs.Prelude.{◌≡◌, ◌++◌, ◌≤◌, length, drop};
 ghost use Rattle.line.specs.Line.{place_width, mark_field, line_mark, bare_fields, reply_fields, held_place, held_mark, held_fields, line_length, fields_line, verdict_line};
 
+use digits::put;
 use frame::refusal_number;
 use reply::{Mark, Reply, Verdict, kind_number};
 
@@ -132,15 +133,19 @@ pub fn reply_fields(r: Reply, frames: u32) -> Fields
 pub fn fields_line(f: Fields) -> [u8; LINE]
     ensures { result ≡ fields_line f }
 {
-    let begin = f.begin;
-    let commit = f.commit;
-    let mut line = [10u8; LINE];
-    digits::put(&mut line, 0, KIND_WIDTH, f.kind as u64);
-    digits::put(&mut line, FRAME_AT, PLACE_WIDTH, f.frame as u64);
-    digits::put(&mut line, THREAD_AT, THREAD_WIDTH, f.thread as u64);
-    digits::put(&mut line, BEGIN_AT, PLACE_WIDTH, mark_field(begin) as u64);
-    digits::put(&mut line, COMMIT_AT, PLACE_WIDTH, mark_field(commit) as u64);
-    digits::put(&mut line, LOCKS_AT, LOCKS_WIDTH, f.locks);
+    let mut line = [b'\n'; LINE];
+    put(&mut line[..FRAME_AT], u64::from(f.kind));
+    put(&mut line[FRAME_AT..THREAD_AT], u64::from(f.frame));
+    put(&mut line[THREAD_AT..BEGIN_AT], u64::from(f.thread));
+    put(
+        &mut line[BEGIN_AT..COMMIT_AT],
+        u64::from(mark_field(f.begin)),
+    );
+    put(
+        &mut line[COMMIT_AT..LOCKS_AT],
+        u64::from(mark_field(f.commit)),
+    );
+    put(&mut line[LOCKS_AT..LINE_END], f.locks);
     line
 }
 
@@ -148,18 +153,13 @@ pub fn fields_line(f: Fields) -> [u8; LINE]
 pub fn verdict_line(r: Reply, frames: u32) -> [u8; LINE]
     ensures { result ≡ verdict_line r frames }
 {
-    let f = reply_fields(r, frames);
-    fields_line(f)
+    fields_line(reply_fields(r, frames))
 }
 
 // A line at the front of a lent buffer. The rest is left.
-pub fn put_line(out: &mut [u8], l: [u8; LINE])
+pub fn put_line(out: &mut [u8], l: &[u8; LINE])
     requires { line_length ≤ length out.old }
-    ensures { out.new ≡ l ++ drop line_length out.old }
+    ensures { out.new ≡ l.now ++ drop line_length out.old }
 {
-    let mut i = 0;
-    while i < LINE {
-        out[i] = l[i];
-        i += 1;
-    }
+    out[..LINE].copy_from_slice(l);
 }

@@ -94,7 +94,7 @@ pub fn trace_line_write(
     match q {
         LineReply::Written => {
             let l = w.line;
-            line::put_line(line, l);
+            line::put_line(line, &l);
             LINE as u64
         }
         LineReply::Refused(x) => reply::pack(x),
