@@ -5,7 +5,7 @@
 ghost use Rattle.std.specs.Prelude.{◌≡◌};
 ghost use Rattle.guards.specs.Guards.{guard_of, guard_line, guards_read, guards_under};
 
-use digits::{Line, digit_values, read_line};
+use digits::{Line, read_line};
 use frame::{LOCKS, Lock, MOST, MOST_PLACE, Refusal, Refused, VARIABLES, Variable};
 use text::MOST_BYTES;
 
@@ -90,7 +90,6 @@ fn guard_line(l: Line) -> GuardLine
 pub fn read_guards(list: &[u8]) -> GuardsRead
     ensures { result ≡ guards_read list.now }
 {
-    let t = digit_values();
     let mut table = [UNPROTECTED; VARIABLES];
     let mut i: usize = 0;
     while i < MOST {
@@ -100,7 +99,7 @@ pub fn read_guards(list: &[u8]) -> GuardsRead
                 table: table,
             };
         }
-        let l = guard_line(read_line(&t, list, 9 * i));
+        let l = guard_line(read_line(list, 9 * i));
         match l {
             GuardLine::Bad(r) => {
                 return GuardsRead {

@@ -1,13 +1,13 @@
 -- Laws of lines: how many bytes there are, the line of fields with low digits alone, and fields written one behind the other.
 use Prim.Native.Nat.{ℕ, ◌+◌, ◌≤◌}
 use mathlib.Core.Path.{◌≡◌, refl}
-use mathlib.Core.List.{List, ◌++◌, append_assoc}
+use mathlib.Core.List.{List, ◌++◌}
 use native.Mathlib.Omega.{arith}
 use borrow.Rule.Slice.PartMut.{put_mid}
 use lib.ListN.{length, take, drop, replicate, length-append, length-take, length-drop}
-use lib.Seq.{take_at, drop_at, drop-drop}
+use lib.Seq.{drop_at}
 use Rattle.digits.specs.Digits.{digits}
-use Rattle.digits.proofs.Writing.{length_digits, digits_low}
+use Rattle.digits.proofs.Writing.{length_digits, digits_low, part_next}
 use Rattle.line.specs.declared.Fields.{Fields}
 use Rattle.line.specs.declared.LineMark.{LineMark}
 use Rattle.line.specs.declared.LineMark.TheVariants as line_marks
@@ -45,10 +45,9 @@ pub front_next : {ys line xs : List ℕ} {at v w : ℕ} (n : ℕ) → Front ys a
     → xs ≡ digits (length (take n (drop at line))) w → w ≡ v → Front (ys ++ digits n v) (at + n) (put_mid at n line xs)
 front_next {ys} {line} {xs} {at} {v} {w} n f h e q =
     let s = replicate {A = ℕ} line_length 10 in
-    let t : take at line ≡ ys = rw f.is (take_at ys (drop at s) at f.long) in
     let d : drop at line ≡ drop at s = rw f.is (drop_at ys (drop at s) at f.long) in
-    let m : length (take n (drop at s)) ≡ n = simp (length-take, length-drop) (omega arith) in
+    let m : length (take n (drop at line)) ≡ n = rw d (simp (length-take, length-drop) (omega arith)) in
     record {
       long = simp (length-append, length_digits) (omega (arith, f.long));
-      is = rw (e, d, m, q, t, drop-drop, append_assoc);
+      is = rw (e, m, q, f.is) (part_next ys s (digits n v) at n f.long);
     }
