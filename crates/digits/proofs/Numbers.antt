@@ -7,11 +7,12 @@ use mathlib.Core.List.{List, [], ◌∷◌, ◌++◌}
 use native.Mathlib.Omega.{arith}
 use native.Mathlib.Numerals.{add-one}
 use native.Mathlib.Nat.{pow-suc, pow-le-pow_right}
-use lib.ListN.{length, get_or, take, drop, set}
-use lib.Seq.{take-suc, drop-cons, length-take-le}
+use lib.ListN.{length, get_or, take, drop, set, length-take}
+use lib.Seq.{take-suc, drop-cons, get_or-take, get_or-drop, length-take-le}
 use borrow.Author.Tests.{lt-ltb, le-ltb, ltb-true, ltb-false}
 use lib.Dec.{ltb}
-use Rattle.laws.proofs.Logic.{never}
+use Rattle.std.proofs.lemmas.List.{get_or_past}
+use Rattle.laws.proofs.Logic.{never, by_test}
 use Rattle.laws.proofs.Lists.{front_next}
 use Rattle.digits.specs.Digits.{Digits, value, none, letter_of, digit_of, digits_value, all_digits, values_of, others, joined, DigitValues}
 
@@ -154,3 +155,9 @@ values_drop (suc n) (b ∷ bs) = values_drop n bs
 
 pub values_part : (at n : ℕ) (bs : List ℕ) → values_of (take n (drop at bs)) ≡ take n (drop at (values_of bs))
 values_part at n bs = values_take n (drop at bs) ∙ ap (take n) (values_drop at bs)
+
+pub part_digits : (ds : List ℕ) → DigitValues ds → (at n : ℕ) → DigitValues (take n (drop at ds))
+unfolding DigitValues
+part_digits ds h at n = λ k. by_test (ltb k n)
+    (λ q. rw (get_or-take n (drop at ds) k 0 (ltb-true k n q), get_or-drop at ds k 0) (h (at + k)))
+    (λ q. rw (get_or_past (take n (drop at ds)) k 0 (omega (arith, length-take n (drop at ds), ltb-false k n q))) (omega arith))
