@@ -5,13 +5,6 @@
 ghost use Rattle.std.specs.Prelude.{◌≡◌, ◌+◌, ◌*◌, ◌≤◌, ◌<◌, length, take, drop};
 ghost use Rattle.digits.specs.Digits.{value_of, letter_of, digit_of, others, values_of, joined, DigitValues, digits_value, line_of, digits_of_sum, byte_of, digits, word_line, too_wide};
 
-// The word of a line, or that the line is not eight digits and an LF.
-#[derive(Clone, Copy)]
-pub enum Line {
-    Word(u32),
-    Malformed,
-}
-
 // What a byte that is no digit counts: more than eight digits can reach.
 const NONE: u64 = 1 << 32;
 
@@ -54,17 +47,14 @@ fn eight_digits(s: &[u8]) -> u64
 }
 
 // The line that starts at a byte of the text.
-pub fn read_line(s: &[u8], at: usize) -> Line
+pub fn read_line(s: &[u8], at: usize) -> Option<u32>
     requires { at ≤ length s.now }
     ensures { result ≡ line_of s.now at }
 {
     if s.len() - at < 9 || s[at + 8] != b'\n' {
-        return Line::Malformed;
+        return None;
     }
-    match u32::try_from(eight_digits(&s[at..at + 8])) {
-        Ok(w) => Line::Word(w),
-        Err(_) => Line::Malformed,
-    }
+    u32::try_from(eight_digits(&s[at..at + 8])).ok()
 }
 
 // The value of a byte as one of the digits A-F, and 16 where it is none: its distance from A, counted round.

@@ -6,13 +6,13 @@ ghost use Rattle.std.specs.Prelude.{◌≡◌, get_or};
 ghost use Rattle.frame.specs.Frame.{decode_word};
 ghost use Rattle.facts.specs.Facts.{place_of, thread_in, place_facts, violation_facts};
 
-use frame::{Decoded, Refusal, Thread};
+use frame::{Frame, Refusal, Thread};
 use phrase::Source;
-use reply::{Mark, Violation};
+use reply::Violation;
 use sentence::Facts;
 
 // The frame at a place. Outside the recording it is that of the word 0, which is no frame.
-fn frame_at(words: &[u32], place: u32) -> Decoded
+fn frame_at(words: &[u32], place: u32) -> Result<Frame, Refusal>
     ensures { result ≡ decode_word (get_or words.now place 0) }
 {
     let i = place as usize;
@@ -22,21 +22,21 @@ fn frame_at(words: &[u32], place: u32) -> Decoded
     frame::decode(0)
 }
 
-fn thread_of(d: Decoded) -> Thread
+fn thread_of(d: Result<Frame, Refusal>) -> Thread
     ensures { result ≡ thread_in d }
 {
-    let Decoded::Frame(f) = d else {
+    let Ok(f) = d else {
         return Thread(0);
     };
     f.thread
 }
 
-fn place_of(m: Mark) -> u32
+fn place_of(m: Option<u32>) -> u32
     ensures { result ≡ place_of m }
 {
     match m {
-        Mark::At(i) => i,
-        Mark::Absent => 0,
+        Some(i) => i,
+        None => 0,
     }
 }
 
@@ -52,7 +52,7 @@ pub fn place_facts(source: Source, words: &[u32], place: u32) -> Facts
         thread: thread_of(d),
         begin: 0,
         commit: 0,
-        by: Decoded::Bad(Refusal::Operation),
+        by: Err(Refusal::Operation),
         locks: 0,
     }
 }

@@ -9,29 +9,8 @@ ghost use Rattle.fields.specs.Fields.{is_kind, line_fields, written_line};
 use digits::{digit_list, join};
 use frame::{Refusal, Refused};
 use line::{
-    ABSENT, BEGIN_AT, COMMIT_AT, FRAME_AT, Fields, LINE, LINE_END, LOCKS_AT, LineMark, Place,
-    THREAD_AT,
+    ABSENT, BEGIN_AT, COMMIT_AT, FRAME_AT, Fields, LINE, LINE_END, LOCKS_AT, Place, THREAD_AT,
 };
-
-// The fields of a line, or why it is none.
-#[derive(Clone, Copy)]
-pub enum FieldsReply {
-    Read(Fields),
-    Refused(Refused),
-}
-
-#[derive(Clone, Copy)]
-pub enum LineReply {
-    Written,
-    Refused(Refused),
-}
-
-// The line of some fields. Where they are refused its bytes are zeros.
-#[derive(Clone, Copy)]
-pub struct LineWritten {
-    pub reply: LineReply,
-    pub line: [u8; LINE],
-}
 
 // What is no verdict line.
 const NO_LINE: Refused = Refused {
@@ -47,23 +26,19 @@ fn is_kind(k: u8) -> bool
 }
 
 // What the number of a begin or a commit says.
-pub fn field_mark(v: Place) -> LineMark
+pub fn field_mark(v: Place) -> Option<Place>
     ensures { result ≡ field_mark place_width v }
 {
-    if v == ABSENT {
-        LineMark::Absent
-    } else {
-        LineMark::At(v)
-    }
+    if v == ABSENT { None } else { Some(v) }
 }
 
 // The fields of a verdict line.
-pub fn read_fields(line: &[u8]) -> FieldsReply
+pub fn read_fields(line: &[u8]) -> Result<Fields, Refused>
     ensures { result ≡ line_fields line.now }
 {
     let mut d = [0; LINE_END];
     if line.len() != LINE || line[LINE_END] != b'\n' || 0 < digit_list(line, &mut d) {
-        return FieldsReply::Refused(NO_LINE);
+        return Err(NO_LINE);
     }
     let fields = Fields {
         kind: join(&d[..FRAME_AT]) as u8,
@@ -74,25 +49,19 @@ pub fn read_fields(line: &[u8]) -> FieldsReply
         locks: join(&d[LOCKS_AT..]),
     };
     if is_kind(fields.kind) {
-        FieldsReply::Read(fields)
+        Ok(fields)
     } else {
-        FieldsReply::Refused(NO_LINE)
+        Err(NO_LINE)
     }
 }
 
-// The line of some fields.
-pub fn write_fields(f: Fields) -> LineWritten
+// The line of some fields, or why it is none.
+pub fn write_fields(f: Fields) -> Result<[u8; LINE], Refused>
     ensures { result ≡ written_line f }
 {
     if is_kind(f.kind) {
-        let l = line::fields_line(f);
-        return LineWritten {
-            reply: LineReply::Written,
-            line: l,
-        };
-    }
-    LineWritten {
-        reply: LineReply::Refused(NO_LINE),
-        line: [0; LINE],
+        Ok(line::fields_line(f))
+    } else {
+        Err(NO_LINE)
     }
 }

@@ -7,7 +7,7 @@ ghost use Rattle.std.specs.Prelude.{◌≡◌, ◌++◌, length};
 ghost use Rattle.output.specs.Output.{decimal, behind, written};
 ghost use Rattle.phrase.specs.Phrase.{source_text, line_text, action_text, decoded_text, variable_in};
 
-use frame::{Action, Decoded, Variable};
+use frame::{Action, Frame, Refusal, Variable};
 use output::{put_byte, put_decimal, put_text};
 
 // What is spoken of.
@@ -68,24 +68,24 @@ fn put_action(out: &mut [u8], at: usize, a: Action) -> usize
 }
 
 // What a frame does.
-pub fn put_frame(out: &mut [u8], at: usize, d: Decoded) -> usize
+pub fn put_frame(out: &mut [u8], at: usize, d: Result<Frame, Refusal>) -> usize
     ensures place { result ≡ behind (length out.old) at (decoded_text d) }
     ensures contents { out.new ≡ written out.old at (decoded_text d) }
 {
     match d {
-        Decoded::Frame(f) => {
+        Ok(f) => {
             let a = f.action;
             put_action(out, at, a)
         }
-        Decoded::Bad(r) => put_text(out, at, b"no frame"),
+        Err(r) => put_text(out, at, b"no frame"),
     }
 }
 
 // The variable that a frame reads or writes.
-pub fn variable_of(d: Decoded) -> Variable
+pub fn variable_of(d: Result<Frame, Refusal>) -> Variable
     ensures { result ≡ variable_in d }
 {
-    let Decoded::Frame(f) = d else {
+    let Ok(f) = d else {
         return Variable(0);
     };
     let a = f.action;

@@ -7,7 +7,7 @@ ghost use Rattle.std.specs.Prelude.{◌≡◌, length};
 ghost use Rattle.output.specs.Output.{behind, written};
 ghost use Rattle.sentence.specs.Sentence.{piece, known, filled};
 
-use frame::{Decoded, Thread};
+use frame::{Frame, Refusal, Thread};
 use output::{put_byte, put_decimal, put_locks};
 use phrase::Source;
 
@@ -16,11 +16,11 @@ use phrase::Source;
 pub struct Facts {
     pub source: Source,
     pub place: u32,
-    pub frame: Decoded,
+    pub frame: Result<Frame, Refusal>,
     pub thread: Thread,
     pub begin: u32,
     pub commit: u32,
-    pub by: Decoded,
+    pub by: Result<Frame, Refusal>,
     pub locks: u64,
 }
 
@@ -58,12 +58,12 @@ fn put_piece(out: &mut [u8], at: usize, c: u8, f: Facts) -> usize
 }
 
 // Whether a frame is at hand.
-pub fn known(d: Decoded) -> bool
+pub fn known(d: Result<Frame, Refusal>) -> bool
     ensures { result ≡ known d }
 {
     match d {
-        Decoded::Frame(f) => true,
-        Decoded::Bad(r) => false,
+        Ok(f) => true,
+        Err(r) => false,
     }
 }
 

@@ -3,18 +3,18 @@ use Rattle.output.specs.Output.{bytes}
 use Rattle.phrase.specs.Phrase.{decoded_text}
 use Rattle.phrase.proofs.put_frame.Goals as goal
 
-pub returns-in-Frame : goal.returns-in-Frame
+pub returns-in-Ok : goal.returns-in-Ok
 unfolding decoded_text
-returns-in-Frame c =
+returns-in-Ok c =
     record {
-      place = rw c.in-Frame.is c.put_action.ensures.place;
-      contents = rw c.in-Frame.is c.put_action.ensures.contents;
+      place = rw c.in-Ok.is c.put_action.ensures.place;
+      contents = rw c.in-Ok.is c.put_action.ensures.contents;
     }
 
-pub returns-in-Bad : goal.returns-in-Bad
+pub returns-in-Err : goal.returns-in-Err
 unfolding decoded_text bytes
-returns-in-Bad c =
+returns-in-Err c =
     record {
-      place = rw c.in-Bad.is c.put_text.ensures.place;
-      contents = rw c.in-Bad.is c.put_text.ensures.contents;
+      place = rw c.in-Err.is c.put_text.ensures.place;
+      contents = rw c.in-Err.is c.put_text.ensures.contents;
     }
