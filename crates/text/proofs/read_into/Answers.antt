@@ -1,9 +1,8 @@
-use Prim.Native.Nat.{◌+◌, ◌-◌}
-use mathlib.Core.Path.{◌≡◌, sym, ◌∙◌}
+use mathlib.Core.Path.{◌≡◌}
 use native.Mathlib.Omega.{arith}
 use Rattle.std.proofs.Common.{rules}
 use Rattle.frame.specs.Limits.{most_frames}
-use Rattle.text.specs.Text.{words_to, line_at}
+use Rattle.text.specs.Text.{words_to}
 use Rattle.text.proofs.Laws.{scan_line, full_reached, line_word, words_turn, reached_behind}
 use Rattle.text.proofs.read_into.Goals as goal
 

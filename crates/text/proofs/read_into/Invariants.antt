@@ -10,5 +10,5 @@ use Rattle.text.proofs.read_into.Given as goal
 abbrev pub invariant-loop-i : goal.invariant-loop-i
 invariant-loop-i l = record {
   rest : scan_from most_frames l.s 0 ≡ scan_from (most_frames - l.i) l.s l.i;
-  words : l.words ≡ words_to l.s l.i ++ drop l.i l.initial.words
+  words : l.words ≡ words_to l.s l.i ++ drop l.i l.initial.words;
 }

@@ -1,4 +1,3 @@
-use mathlib.Core.Path.{sym, ◌∙◌}
 use Rattle.std.proofs.Common.{rules}
 use Rattle.text.proofs.Laws.{scan_line}
 use Rattle.text.proofs.scan.Goals as goal
