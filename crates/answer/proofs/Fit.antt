@@ -15,8 +15,7 @@ use Rattle.frame.specs.declared.Refusal.TheVariants as refusal
 use Rattle.text.specs.Text.{scanned, reached, words_to}
 use Rattle.text.proofs.Laws.{length_words_to, reached_limit}
 use Rattle.guards.specs.Guards.{inferred_guards, guards_under}
-use Rattle.guards.specs.declared.Judgement.{Judgement}
-use Rattle.guards.specs.declared.Judgement.TheVariants.{Inferred}
+use Rattle.guards.specs.Judgement.{Judgement, Inferred}
 use Rattle.guards.proofs.Named.{under_place}
 use Rattle.reply.specs.Reply.{Reply}
 use Rattle.pass.specs.Pass.{full_sets, judgement}

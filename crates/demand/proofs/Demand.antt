@@ -20,9 +20,10 @@ use Rattle.frame.specs.declared.Refused.{Refused}
 use Rattle.frame.specs.declared.Refusal.{Refusal}
 use Rattle.frame.specs.declared.Refusal.TheVariants as refusal
 use Rattle.guards.specs.Guards.{guards_under}
-use Rattle.guards.specs.declared.Judgement.{Judgement}
+use Rattle.guards.specs.Judgement.{Judgement}
 use Rattle.soundness.proofs.Laws.{check_short, sound_fits, sound_first}
-use Rattle.soundness.specs.Soundness.{State, stepped, step_frame, check_from, check_reply, start}
+use Rattle.soundness.specs.Soundness.{stepped, step_frame, check_from, check_reply, start}
+use Rattle.soundness.specs.declared.State.{State}
 use Rattle.soundness.specs.declared.Level.{Level}
 use Rattle.reply.specs.Reply.{reducible, violated, Reply, Verdict}
 use Rattle.instrumented.specs.Rules.{Judging, judged}

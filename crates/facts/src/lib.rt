@@ -17,9 +17,9 @@ fn frame_at(words: &[u32], place: u32) -> Result<Frame, Refusal>
 {
     let i = place as usize;
     if i < words.len() {
-        return frame::decode(words[i]);
+        return Frame::try_from(words[i]);
     }
-    frame::decode(0)
+    Frame::try_from(0)
 }
 
 fn thread_of(d: Result<Frame, Refusal>) -> Thread

@@ -125,7 +125,7 @@ pub fn explain_refused(
     ensures contents { out.new ≡ written out.old 0 (refused_text source text.now words.now x) }
 {
     let reason = x.reason;
-    let n = frame::refusal_number(reason);
+    let n = u8::from(reason);
     let start = 9 * x.place as usize;
     if n == 1 {
         if start < text.len() {

@@ -38,7 +38,7 @@ fn source_of(r: Reply) -> Source
     match r {
         Err(x) => {
             let reason = x.reason;
-            source_by(frame::refusal_number(reason))
+            source_by(u8::from(reason))
         }
         Ok(v) => Source::Recording,
     }

@@ -14,7 +14,8 @@ use Rattle.frame.specs.declared.Frame.{Frame}
 use Rattle.frame.specs.declared.Refusal.{Refusal}
 use Rattle.reply.specs.Reply.{refused, reducible, violated, Reply, Verdict}
 use Rattle.reply.specs.declared.Violation.{Violation}
-use Rattle.soundness.specs.Soundness.{State, stepped, step_frame, check_from, start}
+use Rattle.soundness.specs.Soundness.{stepped, step_frame, check_from, start}
+use Rattle.soundness.specs.declared.State.{State}
 use Rattle.soundness.proofs.Laws.{check_short}
 use Rattle.soundness.specs.declared.Level.{Level}
 use Rattle.instrumented.specs.Rules.{Judging, judged}

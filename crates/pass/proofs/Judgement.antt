@@ -14,7 +14,8 @@ use Rattle.frame.specs.declared.Frame.{Frame}
 use Rattle.frame.specs.declared.Thread.{Thread}
 use Rattle.frame.specs.declared.Lock.{Lock}
 use Rattle.reply.specs.Reply.{Verdict, Reply}
-use Rattle.soundness.specs.Soundness.{State, step_frame, check_reply, start}
+use Rattle.soundness.specs.Soundness.{step_frame, check_reply, start}
+use Rattle.soundness.specs.declared.State.{State}
 use Rattle.soundness.proofs.Laws.{sound_fits}
 use Rattle.instrumented.specs.Rules.{Phase, outside, before, after, Judging, Judged, phase_at, contains, with_commit, committed, acquire_in, unprotected_in, judge_operation}
 use Rattle.operation.specs.declared.Operation.{Operation}

@@ -9,7 +9,8 @@ use Rattle.frame.specs.Limits.{thread_count, lock_count, most_frames}
 use Rattle.frame.specs.Frame.{decode_word}
 use Rattle.frame.specs.declared.Frame.{Frame}
 use Rattle.frame.specs.declared.Refusal.{Refusal}
-use Rattle.soundness.specs.Soundness.{State, state_of, check_from, start}
+use Rattle.soundness.specs.Soundness.{state_of, check_from, start}
+use Rattle.soundness.specs.declared.State.{State}
 use Rattle.reply.specs.Reply.{refused, reducible}
 use Rattle.reply.specs.declared.Violation.{Violation}
 use Rattle.instrumented.specs.Rules.{Judging, judging_of}

@@ -7,7 +7,8 @@ use Rattle.frame.specs.Frame.{decode_word}
 use Rattle.frame.specs.declared.Frame.{Frame}
 use Rattle.reply.specs.Reply.{refused, reducible, violated, Reply}
 use Rattle.reply.specs.declared.Violation.{Violation}
-use Rattle.soundness.specs.Soundness.{State, check_reply, start}
+use Rattle.soundness.specs.Soundness.{check_reply, start}
+use Rattle.soundness.specs.declared.State.{State}
 use Rattle.instrumented.specs.Rules.{Judging, judging_of}
 use Rattle.turn.specs.Turn.{turned}
 use Rattle.turn.specs.declared.Stop.{Stop}

@@ -8,7 +8,7 @@ ghost use Rattle.frame.specs.Limits.{thread_count, most_frames};
 ghost use Rattle.reply.specs.Reply.{refused as refusedReply};
 ghost use Rattle.pass.specs.Pass.{judgement, sets_left, after_check, earlier, first_open_from, open_at_end, passed_with};
 
-use frame::{LOCKS, MOST, MOST_PLACE, Refusal, Refused, THREADS, VARIABLES};
+use frame::{Frame, LOCKS, MOST, MOST_PLACE, Refusal, Refused, THREADS, VARIABLES};
 use reply::{Reply, Violation};
 use turn::Stop;
 
@@ -93,7 +93,7 @@ fn run(words: &[u32], guards: &[u8; VARIABLES], sets: &mut [u64; VARIABLES]) -> 
     let n = words.len() as u32;
     let mut i: u32 = 0;
     while i < n {
-        let d = frame::decode(words[i as usize]);
+        let d = Frame::try_from(words[i as usize]);
         let Ok(f) = d else {
             return refused(frame::refusal_of(d), i);
         };

@@ -16,7 +16,7 @@ use sentence::{Facts, say};
 fn line_of(reason: Refusal, known: bool) -> u8
     ensures { result ≡ sentence_line (refusal_number reason) known }
 {
-    let n = frame::refusal_number(reason);
+    let n = u8::from(reason);
     if known {
         return n - 1;
     }

@@ -30,7 +30,8 @@ use Rattle.guards.specs.declared.Guard.{Guard}
 use Rattle.guards.specs.declared.Guard.TheVariants as guard
 use Rattle.reply.specs.Reply.{refused, reducible, violated, Verdict}
 use Rattle.reply.specs.declared.Violation.{Violation}
-use Rattle.soundness.specs.Soundness.{State, step_frame, level_of, start}
+use Rattle.soundness.specs.Soundness.{step_frame, level_of, start}
+use Rattle.soundness.specs.declared.State.{State}
 use Rattle.soundness.specs.declared.Level.{Level}
 use Rattle.soundness.specs.declared.Level.TheVariants as level
 use Rattle.instrumented.specs.Rules.{Phase, outside, before, after, Judging, judging_of, Judged, judged, phase_at, contains, with_commit, committed, acquire_in, unprotected_in, judge_operation}

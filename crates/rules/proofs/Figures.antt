@@ -13,7 +13,7 @@ use native.Mathlib.Numerals.{add-one}
 use borrow.Author.Tests.{eq-eqb, ne_eqb, le-ltb, le-leb, lt-leb}
 use lib.Dec.{eqb, leb}
 use lib.ListN.{get_or, drop, length-replicate, get_or-replicate}
-use Rattle.guards.specs.declared.Judgement.TheVariants.{Declared}
+use Rattle.guards.specs.Judgement.{Declared}
 use Rattle.verdict.specs.Verdict.{verdict_under, with_table, inferred_reply}
 use Rattle.turn.specs.Turn.{judge_frame}
 use Rattle.pass.specs.Pass.{Ended, full_sets, judge_from, start_judging, judgement}
@@ -28,7 +28,8 @@ use Rattle.guards.specs.Guards.{guard_of, guards_read, listed_guard, inferred_co
 use Rattle.guards.proofs.Named.{listed_guard_lem}
 use Rattle.guards.specs.declared.Guard.{Guard}
 use Rattle.guards.specs.declared.Guard.TheVariants.{Locked, Unprotected, Inferred}
-use Rattle.soundness.specs.Soundness.{State, owner_of, count_of, check_from, check_reply, start}
+use Rattle.soundness.specs.Soundness.{owner_of, count_of, check_from, check_reply, start}
+use Rattle.soundness.specs.declared.State.{State}
 use Rattle.soundness.proofs.Laws.{check_short, sound_fits, First, sound_first}
 use Rattle.reply.specs.Reply.{reducible, violated, Reply}
 use Rattle.reply.specs.declared.Kind.{Kind}

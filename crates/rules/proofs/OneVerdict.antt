@@ -12,7 +12,8 @@ use lib.ListN.{get_or}
 use Rattle.frame.specs.Frame.{decode_word}
 use Rattle.frame.specs.declared.Frame.{Frame}
 use Rattle.guards.specs.declared.Guard.{Guard}
-use Rattle.soundness.specs.Soundness.{State, start}
+use Rattle.soundness.specs.Soundness.{start}
+use Rattle.soundness.specs.declared.State.{State}
 use Rattle.reply.specs.declared.Violation.{Violation}
 use Rattle.laws.proofs.Logic.{never}
 use Rattle.rules.specs.Figures.{Stage, Store, Acts, Steps, Reaches, none, more, start_store, InBlock, Committed, StageAfter, Since, MarkIs, lock_set, ToldBy, RulesFixTheReply}

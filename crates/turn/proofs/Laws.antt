@@ -5,7 +5,8 @@ use mathlib.Core.Path.{◌≡◌, refl}
 use mathlib.Core.List.{List}
 use Rattle.frame.specs.declared.Frame.{Frame}
 use Rattle.reply.specs.Reply.{Verdict}
-use Rattle.soundness.specs.Soundness.{State, stepped, step_frame}
+use Rattle.soundness.specs.Soundness.{stepped, step_frame}
+use Rattle.soundness.specs.declared.State.{State}
 use Rattle.soundness.specs.declared.Level.{Level}
 use Rattle.instrumented.specs.Rules.{Judging, judged}
 use Rattle.judge.proofs.Laws.{wrong_keeps}

@@ -4,7 +4,8 @@
 use Rattle.std.specs.Prelude.{ℕ, ◌≡◌, List, get_or, Result, Ok, Err}
 use Rattle.frame.specs.declared.Frame.{Frame}
 use Rattle.reply.specs.Reply.{Verdict}
-use Rattle.soundness.specs.Soundness.{State, step_frame, level_of}
+use Rattle.soundness.specs.Soundness.{step_frame, level_of}
+use Rattle.soundness.specs.declared.State.{State}
 use Rattle.operation.specs.Operation.{operation_of}
 use Rattle.instrumented.specs.Rules.{Judging, Judged, judge_operation}
 use Rattle.instrumented.specs.Held.{held_set, Follows}

@@ -4,7 +4,7 @@ use Rattle.std.specs.Prelude.{ℕ, cond, List, ◌++◌, ltb, length, drop, Resu
 use Rattle.frame.specs.Limits.{variable_count}
 use Rattle.frame.specs.declared.Refusal.TheVariants as refusal
 use Rattle.guards.specs.Guards.{inferred_guards, guards_under}
-use Rattle.guards.specs.declared.Judgement.{Judgement}
+use Rattle.guards.specs.Judgement.{Judgement}
 use Rattle.reply.specs.Reply.{refused, reducible, Reply}
 use Rattle.pass.specs.Pass.{Ended, full_sets, judgement}
 use Rattle.frame.specs.declared.Refused.{Refused}

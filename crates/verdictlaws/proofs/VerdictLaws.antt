@@ -11,7 +11,7 @@ use Rattle.laws.proofs.Logic.{never}
 use Rattle.frame.specs.Limits.{variable_count}
 use Rattle.text.specs.Text.{scanned, words_to}
 use Rattle.guards.specs.Guards.{guards_read}
-use Rattle.guards.specs.declared.Judgement.TheVariants as judgement
+use Rattle.guards.specs.Judgement as judgement
 use Rattle.guards.proofs.Named.{listed_guard_lem}
 use Rattle.reply.specs.Reply.{kind_number, reducible, Reply}
 use Rattle.reply.specs.declared.Kind.{Kind}

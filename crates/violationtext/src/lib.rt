@@ -16,7 +16,7 @@ fn say_kind(out: &mut [u8], at: usize, kind: Kind, f: Facts) -> usize
     ensures place { result ≡ behind (length out.old) at (filled f (bytes (kind_sentence kind))) }
     ensures contents { out.new ≡ written out.old at (filled f (bytes (kind_sentence kind))) }
 {
-    let n = reply::kind_number(kind);
+    let n = u8::from(kind);
     let sentence = textlines::nth_line(
         b"violation: kind 1, guard not held, by thread &.\n\
             violation: kind 2, unprotected access after commit, by thread &.\n\
@@ -82,7 +82,7 @@ fn say_frame(out: &mut [u8], at: usize, known: bool, f: Facts) -> usize
 fn why_line(kind: Kind, known: bool) -> u8
     ensures { result ≡ cond known (kind_number kind - 1) (kind_number kind + 3) }
 {
-    let n = reply::kind_number(kind);
+    let n = u8::from(kind);
     if known {
         return n - 1;
     }
@@ -114,7 +114,7 @@ fn say_remedy(out: &mut [u8], at: usize, kind: Kind, f: Facts) -> usize
     ensures place { result ≡ behind (length out.old) at (filled f (bytes (remedy_sentence kind))) }
     ensures contents { out.new ≡ written out.old at (filled f (bytes (remedy_sentence kind))) }
 {
-    let n = reply::kind_number(kind);
+    let n = u8::from(kind);
     let sentence = textlines::nth_line(
         b"  To mend it, hold lock ~ at this line; in a block, take it before the commit.\n\
             \x20 To mend it, end the block before this line, or name a guard of the variable and hold it at each access.\n\

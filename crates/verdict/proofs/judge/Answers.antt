@@ -1,5 +1,5 @@
 use mathlib.Core.Path.{sym, ap, ◌∙◌}
-use Rattle.guards.specs.declared.GuardsRead.{GuardsRead}
+use Rattle.guards.specs.Guards.{GuardsRead}
 use Rattle.pass.specs.Pass.{full_sets}
 use Rattle.verdict.specs.Verdict.{verdict_under}
 use Rattle.verdict.proofs.judge.Goals as goal
