@@ -62,7 +62,7 @@ fn put_hexadecimal(out: &mut [u8], at: usize, b: u8) -> usize
     ensures contents { out.new ≡ written out.old at (digits 2 b) }
 {
     let mut two = [0u8; 2];
-    digits::put(&mut two, 0, 2, b as u64);
+    digits::put(&mut two, u64::from(b));
     put_text(out, at, &two)
 }
 
