@@ -44,7 +44,7 @@ judgement_fit codes ws = go (judgement codes full_sets ws).reply refl (judgement
   where
     go : (r : Reply) → (judgement codes full_sets ws).reply ≡ r → ReplyBelow most_frames r → Fit r (length ws)
     go (Err x) e b = refused_fit x (length ws) b
-    go (Ok (Ok tt)) e b = bare_fit 0 (length ws) (judgement_fits codes full_sets ws (Ok tt) e)
+    go (Ok (Ok _)) e b = bare_fit 0 (length ws) (judgement_fits codes full_sets ws (Ok tt) e)
     go (Ok (Err v)) e b = record {
       frame = omega (arith, b.frame);
       begin = mark_fit v.begin v.frame b.frame b.begin;
