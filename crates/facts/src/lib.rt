@@ -15,20 +15,16 @@ use sentence::Facts;
 fn frame_at(words: &[u32], place: u32) -> Decoded
     ensures { result ≡ decode_word (get_or words.now place 0) }
 {
-    let i = place as usize;
-    if i < words.len() {
-        return frame::decode(words[i]);
-    }
-    frame::decode(0)
+    frame::decode(words.get(place as usize).copied().unwrap_or(0))
 }
 
-fn thread_of(d: Decoded) -> Thread
-    ensures { result ≡ thread_in d }
+fn thread_of(decoded: Decoded) -> Thread
+    ensures { result ≡ thread_in decoded }
 {
-    let Decoded::Frame(f) = d else {
-        return Thread(0);
-    };
-    f.thread
+    match decoded {
+        Decoded::Frame(frame) => frame.thread,
+        Decoded::Bad(_) => Thread(0),
+    }
 }
 
 fn place_of(m: Mark) -> u32
@@ -44,12 +40,12 @@ fn place_of(m: Mark) -> u32
 pub fn place_facts(source: Source, words: &[u32], place: u32) -> Facts
     ensures { result ≡ place_facts source words.now place }
 {
-    let d = frame_at(words, place);
+    let frame = frame_at(words, place);
     Facts {
-        source: source,
-        place: place,
-        frame: d,
-        thread: thread_of(d),
+        source,
+        place,
+        frame,
+        thread: thread_of(frame),
         begin: 0,
         commit: 0,
         by: Decoded::Bad(Refusal::Operation),
@@ -58,21 +54,18 @@ pub fn place_facts(source: Source, words: &[u32], place: u32) -> Facts
 }
 
 // What is known of a violation.
-pub fn violation_facts(source: Source, words: &[u32], v: Violation) -> Facts
-    ensures { result ≡ violation_facts source words.now v }
+pub fn violation_facts(source: Source, words: &[u32], violation: Violation) -> Facts
+    ensures { result ≡ violation_facts source words.now violation }
 {
-    let begin = v.begin;
-    let commit = v.commit;
-    let thread = v.thread;
-    let c = place_of(commit);
+    let commit = place_of(violation.commit);
     Facts {
-        source: source,
-        place: v.frame,
-        frame: frame_at(words, v.frame),
-        thread: thread,
-        begin: place_of(begin),
-        commit: c,
-        by: frame_at(words, c),
-        locks: v.locks,
+        source,
+        place: violation.frame,
+        frame: frame_at(words, violation.frame),
+        thread: violation.thread,
+        begin: place_of(violation.begin),
+        commit,
+        by: frame_at(words, commit),
+        locks: violation.locks,
     }
 }
