@@ -20,58 +20,58 @@ pub enum Source {
 }
 
 #[tactic(auto, unfolding(crate::specs::Phrase::source_text, output::specs::Output::bytes))]
-pub fn put_source(text: &mut Text<'_>, source: Source)
-    ensures { Appended text.old text.new (source_text source) }
+pub fn put_source(out: &mut Text<'_>, source: Source)
+    ensures { Appended out.old out.new (source_text source) }
 {
     match source {
-        Source::Recording => text.put_text(b"the recording"),
-        Source::GuardList => text.put_text(b"the guard list"),
-        Source::Left => text.put_text(b"the left recording"),
-        Source::Right => text.put_text(b"the right recording"),
-        Source::Text => text.put_text(b"the text"),
+        Source::Recording => out.put_text(b"the recording"),
+        Source::GuardList => out.put_text(b"the guard list"),
+        Source::Left => out.put_text(b"the left recording"),
+        Source::Right => out.put_text(b"the right recording"),
+        Source::Text => out.put_text(b"the text"),
     }
 }
 
 // Some words and a number.
-fn put_named(text: &mut Text<'_>, words: &[u8], number: u64)
-    ensures { Appended text.old text.new (words.now ++ decimal number) }
+fn put_named(out: &mut Text<'_>, words: &[u8], number: u64)
+    ensures { Appended out.old out.new (words.now ++ decimal number) }
 {
-    text.put_text(words);
-    text.put_decimal(number);
+    out.put_text(words);
+    out.put_decimal(number);
 }
 
 // A place as a line, counted from 1, and as a place, counted from 0.
-pub fn put_line(text: &mut Text<'_>, place: u32)
-    ensures { Appended text.old text.new (line_text place) }
+pub fn put_line(out: &mut Text<'_>, place: u32)
+    ensures { Appended out.old out.new (line_text place) }
 {
     let place = place as u64;
-    put_named(text, b"line ", place + 1);
-    put_named(text, b" [", place);
-    text.put_byte(b']');
+    put_named(out, b"line ", place + 1);
+    put_named(out, b" [", place);
+    out.put_byte(b']');
 }
 
 #[tactic(auto, unfolding(crate::specs::Phrase::action_text, output::specs::Output::bytes))]
-fn put_action(text: &mut Text<'_>, action: Action)
-    ensures { Appended text.old text.new (action_text action) }
+fn put_action(out: &mut Text<'_>, action: Action)
+    ensures { Appended out.old out.new (action_text action) }
 {
     match action {
-        Action::Acquire(lock) => put_named(text, b"acquire of lock ", lock.0 as u64),
-        Action::Release(lock) => put_named(text, b"release of lock ", lock.0 as u64),
-        Action::Read(variable) => put_named(text, b"read of variable ", variable.0 as u64),
-        Action::Write(variable) => put_named(text, b"write of variable ", variable.0 as u64),
-        Action::Begin => text.put_text(b"begin"),
-        Action::End => text.put_text(b"end"),
+        Action::Acquire(lock) => put_named(out, b"acquire of lock ", lock.0 as u64),
+        Action::Release(lock) => put_named(out, b"release of lock ", lock.0 as u64),
+        Action::Read(variable) => put_named(out, b"read of variable ", variable.0 as u64),
+        Action::Write(variable) => put_named(out, b"write of variable ", variable.0 as u64),
+        Action::Begin => out.put_text(b"begin"),
+        Action::End => out.put_text(b"end"),
     }
 }
 
 // What a frame does.
 #[tactic(auto, unfolding(crate::specs::Phrase::decoded_text, output::specs::Output::bytes))]
-pub fn put_frame(text: &mut Text<'_>, decoded: Decoded)
-    ensures { Appended text.old text.new (decoded_text decoded) }
+pub fn put_frame(out: &mut Text<'_>, decoded: Decoded)
+    ensures { Appended out.old out.new (decoded_text decoded) }
 {
     match decoded {
-        Decoded::Frame(frame) => put_action(text, frame.action),
-        Decoded::Bad(_) => text.put_text(b"no frame"),
+        Decoded::Frame(frame) => put_action(out, frame.action),
+        Decoded::Bad(_) => out.put_text(b"no frame"),
     }
 }
 

@@ -70,10 +70,10 @@ fn sentence_of(reason: Refusal, known: bool) -> &'static [u8]
 }
 
 // A refusal in words.
-pub fn explain_refusal(text: &mut Text<'_>, source: Source, words: &[u32], refused: Refused)
-    ensures { Appended text.old text.new (refusal_text source words.now refused) }
+pub fn explain_refusal(out: &mut Text<'_>, source: Source, words: &[u32], refused: Refused)
+    ensures { Appended out.old out.new (refusal_text source words.now refused) }
 {
     let facts = facts::place_facts(source, words, refused.place);
     let sentence = sentence_of(refused.reason, sentence::known(facts.frame));
-    sentence::say(text, sentence, facts);
+    sentence::say(out, sentence, facts);
 }

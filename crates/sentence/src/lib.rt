@@ -25,21 +25,21 @@ pub struct Facts {
 
 // One byte of a sentence, or what it stands for.
 #[tactic(auto, unfolding(crate::specs::Sentence::piece))]
-fn put_piece(text: &mut Text<'_>, byte: u8, facts: Facts)
-    ensures { Appended text.old text.new (piece facts byte) }
+fn put_piece(out: &mut Text<'_>, byte: u8, facts: Facts)
+    ensures { Appended out.old out.new (piece facts byte) }
 {
     match byte {
-        b'@' => phrase::put_line(text, facts.place),
-        b'<' => phrase::put_line(text, facts.begin),
-        b'>' => phrase::put_line(text, facts.commit),
-        b'%' => phrase::put_source(text, facts.source),
-        b'*' => phrase::put_frame(text, facts.frame),
-        b'^' => phrase::put_frame(text, facts.by),
-        b'&' => text.put_decimal(facts.thread.0 as u64),
-        b'$' => text.put_decimal(phrase::variable_of(facts.frame).0 as u64),
-        b'~' => text.put_locks(facts.locks),
-        b'#' => text.put_decimal(facts.place as u64),
-        _ => text.put_byte(byte),
+        b'@' => phrase::put_line(out, facts.place),
+        b'<' => phrase::put_line(out, facts.begin),
+        b'>' => phrase::put_line(out, facts.commit),
+        b'%' => phrase::put_source(out, facts.source),
+        b'*' => phrase::put_frame(out, facts.frame),
+        b'^' => phrase::put_frame(out, facts.by),
+        b'&' => out.put_decimal(facts.thread.0 as u64),
+        b'$' => out.put_decimal(phrase::variable_of(facts.frame).0 as u64),
+        b'~' => out.put_locks(facts.locks),
+        b'#' => out.put_decimal(facts.place as u64),
+        _ => out.put_byte(byte),
     }
 }
 
@@ -51,10 +51,10 @@ pub fn known(decoded: Decoded) -> bool
 }
 
 // A sentence with its slots filled in.
-pub fn say(text: &mut Text<'_>, sentence: &[u8], facts: Facts)
-    ensures { Appended text.old text.new (filled facts sentence.now) }
+pub fn say(out: &mut Text<'_>, sentence: &[u8], facts: Facts)
+    ensures { Appended out.old out.new (filled facts sentence.now) }
 {
     for byte in sentence {
-        put_piece(text, *byte, facts);
+        put_piece(out, *byte, facts);
     }
 }

@@ -25,4 +25,4 @@ unfolding filled
 returns c =
     let l = c.loop-byte in
     let e : drop l.byte-index c.args.sentence.now ≡ [] = drop_of_length-le c.args.sentence.now {i = l.byte-index} (omega arith) in
-    l.invariant l.text (rw e (appended_none l.text))
+    l.invariant l.out (rw e (appended_none l.out))

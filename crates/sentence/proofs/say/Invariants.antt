@@ -7,4 +7,4 @@ use Rattle.sentence.proofs.say.Given as goal
 
 abbrev pub invariant-loop-byte : goal.invariant-loop-byte
 invariant-loop-byte l =
-    (text : Text) → Appended l.text text (filled l.facts (drop l.byte-index l.sentence)) → Appended l.initial.text text (filled l.facts l.sentence)
+    (text : Text) → Appended l.out text (filled l.facts (drop l.byte-index l.sentence)) → Appended l.initial.out text (filled l.facts l.sentence)
