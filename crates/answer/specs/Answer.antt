@@ -1,27 +1,25 @@
 -- The kind of a reply, the verdict on a text, which of its bytes decide, and that a line holds every place.
 -- Quotes are from docs/FORMAT.md.
-use Rattle.std.specs.Prelude.{ℕ, ◌+◌, ◌<◌, ◌≡◌, List, [], length, take}
+use Rattle.std.specs.Prelude.{ℕ, ◌+◌, ◌<◌, ◌≡◌, List, [], length, take, Result, Ok, Err}
 use Rattle.guards.specs.declared.Judgement.TheVariants.{Inferred}
 use Rattle.guards.specs.declared.Judgement.{Judgement}
 use Rattle.digits.specs.Digits.{too_wide}
 use Rattle.text.specs.Text.{scanned, words_to, most_bytes}
-use Rattle.text.specs.declared.ReadReply.{ReadReply}
-use Rattle.text.specs.declared.ReadReply.TheVariants as read
-use Rattle.reply.specs.declared.Reply.{Reply}
-use Rattle.reply.specs.declared.Reply.TheVariants as reply
+use Rattle.reply.specs.Reply.{Reply}
 use Rattle.line.specs.Line.{place_width, MarkTold, reply_fields}
 use Rattle.line.specs.declared.Fields.{Fields}
 use Rattle.verdict.specs.Verdict.{verdict_under, inferred_reply}
 use Rattle.answer.specs.declared.TextJudged.{TextJudged}
+use Rattle.frame.specs.declared.Refused.{Refused}
 
 -- The kind of a reply's verdict line, whatever the number of frames.
 abbrev pub reply_kind : Reply → ℕ
 reply_kind r = (reply_fields r 0).kind
 
 -- "recording text in, one verdict line out, guards inferred"; "All lines of a text come before any of its frames."
-abbrev pub on_read : ReadReply → List ℕ → TextJudged
-on_read (read.Lines n) s = record { reply = verdict_under Inferred [] (words_to s n); frames = n }
-on_read (read.Refused r) s = record { reply = reply.Refused r; frames = 0 }
+abbrev pub on_read : Result ℕ Refused → List ℕ → TextJudged
+on_read (Ok n) s = record { reply = verdict_under Inferred [] (words_to s n); frames = n }
+on_read (Err r) s = record { reply = Err r; frames = 0 }
 
 unfoldable pub text_judged : List ℕ → TextJudged
 text_judged s = on_read (scanned s) s

@@ -8,7 +8,6 @@ ghost use Rattle.answer.specs.Answer.{reply_kind, text_judged};
 
 use guards::Judgement;
 use reply::Reply;
-use text::ReadReply;
 
 // The reply to a text, and its number of frames where it is read.
 #[derive(Clone, Copy)]
@@ -36,7 +35,7 @@ pub fn judge_text(text: &[u8]) -> TextJudged
     let mut words = [0u32; frame::MOST];
     let q = text::read_into(text, &mut words);
     match q {
-        ReadReply::Lines(n) => {
+        Ok(n) => {
             let k = n as usize;
             let r = verdict::judge(Judgement::Inferred, b"", &words[..k]);
             TextJudged {
@@ -44,8 +43,8 @@ pub fn judge_text(text: &[u8]) -> TextJudged
                 frames: n,
             }
         }
-        ReadReply::Refused(x) => TextJudged {
-            reply: Reply::Refused(x),
+        Err(x) => TextJudged {
+            reply: Err(x),
             frames: 0,
         },
     }

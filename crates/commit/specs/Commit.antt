@@ -1,15 +1,13 @@
 -- What a walk over a reducible recording keeps to find the commits of its units, and what a frame does to it. In this order: the tables,
 -- what an action does, what a frame does, the unit that it commits.
 -- Quotes are from docs/FORMAT.md.
-use Rattle.std.specs.Prelude.{ℕ, ◌+◌, ◌-◌, ◌<◌, Bool, false, cond, ◌||◌, List, eqb, leb, get_or, set, replicate}
+use Rattle.std.specs.Prelude.{ℕ, ◌+◌, ◌-◌, ◌<◌, Bool, false, cond, ◌||◌, List, eqb, leb, get_or, set, replicate, Option, Some, None}
 use Rattle.frame.specs.Limits.{thread_count, lock_count}
 use Rattle.frame.specs.declared.Action.{Action}
 use Rattle.frame.specs.declared.Action.TheVariants.{Acquire, Release, Read, Write, Begin, End}
 use Rattle.frame.specs.declared.Frame.{Frame}
 use Rattle.guards.specs.Guards.{unprotected_code}
 use Rattle.soundness.specs.Soundness.{nest}
-use Rattle.reply.specs.declared.Mark.{Mark}
-use Rattle.reply.specs.declared.Mark.TheVariants.{At, Absent}
 
 -- How often each lock is held; of each thread the depth, the place where its unit started, and whether that unit has committed, 1 or 0.
 pub record Tables : Type 0 where
@@ -64,8 +62,8 @@ abbrev pub settles : Bool → ℕ → Bool
 settles c d = c || eqb d 0
 
 -- The unit that a frame commits, by its start; absent where it commits none.
-abbrev pub unit_committed : Bool → ℕ → ℕ → Mark
-unit_committed s done start = cond (eqb done 0) (cond s (At start) Absent) Absent
+abbrev pub unit_committed : Bool → ℕ → ℕ → Option ℕ
+unit_committed s done start = cond (eqb done 0) (cond s (Some start) None) None
 
 -- The depth of a frame's thread before the frame, and the start of its unit.
 abbrev pub depth_in : Frame → Tables → ℕ
@@ -83,7 +81,7 @@ visited guards i f x =
     (committed_after (committing guards x.counts f.action) (nest (depth_in f x) f.action) (get_or x.committed f.thread.0 0)))
 
 -- Where the unit started that frame f at place i commits; absent where it commits none.
-unfoldable pub unit_start : List ℕ → ℕ → Frame → Tables → Mark
+unfoldable pub unit_start : List ℕ → ℕ → Frame → Tables → Option ℕ
 unit_start guards i f x =
     unit_committed (settles (committing guards x.counts f.action) (nest (depth_in f x) f.action)) (get_or x.committed f.thread.0 0)
     (start_at i f x)

@@ -9,7 +9,6 @@ ghost use Rattle.commit.specs.Commit.{Raisable, tables_of, counted, committing, 
 
 use frame::{Action, Frame, LOCKS, THREADS, VARIABLES};
 use guards::UNPROTECTED;
-use reply::Mark;
 
 // An acquire or a release is counted. Whether the action commits the block that it stands in.
 fn count(guards: &[u8; VARIABLES], counts: &mut [u32; LOCKS], a: Action) -> bool
@@ -95,16 +94,16 @@ fn is_settled(commits: bool, d: u32) -> bool
 }
 
 // The unit that a frame commits, by its start.
-fn unit_committed(settled: bool, done: u8, start: u32) -> Mark
+fn unit_committed(settled: bool, done: u8, start: u32) -> Option<u32>
     ensures { result ≡ unit_committed settled done start }
 {
     if done != 0 {
-        return Mark::Absent;
+        return None;
     }
     if settled {
-        return Mark::At(start);
+        return Some(start);
     }
-    Mark::Absent
+    None
 }
 
 // A frame at place i, with how often each lock is held, and of each thread the depth, where its unit started, and whether that has committed.
@@ -117,7 +116,7 @@ pub fn visit(
     committed: &mut [u8; THREADS],
     i: u32,
     f: Frame,
-) -> Mark
+) -> Option<u32>
     requires fact_1 { InRange f }
     requires fact_2 { Raisable counts.old }
     requires fact_3 { Raisable depths.old }

@@ -1,4 +1,5 @@
 -- The table of commits has the commits of the serial order. In this order: the entry of the place that the walk is at; every entry; the claims.
+use Rattle.std.specs.Prelude.{Ok, Result}
 use Prim.Native.Nat.{ℕ, suc, ◌+◌, ◌-◌, ◌≤◌, ◌<◌}
 use mathlib.Core.Path.{◌≡◌, refl, sym, ap, ◌∙◌, subst}
 use mathlib.Core.Bool.{Bool, true, false}
@@ -13,20 +14,16 @@ use Rattle.laws.proofs.Lists.{rest_of, nothing_left}
 use Rattle.frame.specs.Limits.{most_frames}
 use Rattle.frame.specs.Frame.{decode_word, InRange}
 use Rattle.frame.specs.declared.Frame.{Frame}
-use Rattle.frame.specs.declared.Decoded.TheVariants as decoded
 use Rattle.frame.proofs.Laws.{decoded_in_range}
 use Rattle.guards.specs.Guards.{guards_under}
 use Rattle.guards.specs.declared.Judgement.{Judgement}
-use Rattle.guards.specs.declared.GuardsReply.TheVariants as guards
 use Rattle.soundness.specs.Soundness.{State, stepped, step_frame, start}
-use Rattle.soundness.specs.declared.Outcome.TheVariants as outcome
 use Rattle.soundness.specs.declared.Level.{Level}
 use Rattle.instrumented.specs.Rules.{Judging}
 use Rattle.exchange.specs.Exchange.{frames_of}
 use Rattle.commit.specs.Commit.{Tables, start_tables, visited, unit_start}
 use Rattle.pass.specs.Pass.{start_judging, full_sets}
 use Rattle.pass.proofs.Judgement.{judgement_fits, judgement_sound}
-use Rattle.reply.specs.declared.Verdict.TheVariants as verdict
 use Rattle.serial.specs.Order.{commits, depth_after}
 use Rattle.rules.specs.Choice.{Reducible}
 use Rattle.reduction.proofs.Run as run
@@ -37,11 +34,11 @@ use Rattle.orderlaws.proofs.Recording.{Pass, end, on, frames_first, start_view, 
 use Rattle.orderlaws.proofs.Walk.{Kept, kept_next, kept_start}
 use Rattle.orderlaws.proofs.Order.{reducible_pass}
 use Rattle.orderlaws.proofs.Open.{Reached, reached_depth, reached_next}
-use Rattle.order.specs.declared.OrderReply.TheVariants as order
 use Rattle.commitplaces.specs.CommitPlaces.{noted, commits_from, commits_of, commit_places}
 use Rattle.unitcommits.specs.UnitCommits.{commits_under, commits_out_under}
 use Rattle.commitlaws.specs.CommitLaws.{Starts, Commits, CommitPlacesAreCommits, CallsLeaveCommits}
 use Rattle.commitlaws.proofs.Entries.{Marks, entry, from, marks_here, marks_next, settled_next, starts_next, stays, noted_long, walk_long, quiet, owned, pending}
+use Rattle.frame.specs.declared.Refusal.{Refusal}
 
 -- The entry of place p, of a table t that became `left`.
 abbrev Left : List ℕ → List ℕ → ℕ → List ℕ → List ℕ → Type 0
@@ -50,7 +47,7 @@ Left guards all p t left =
     × ((Starts all p → ⊥) → get_or left p 0 ≡ get_or t p 0)
 
 module _ (guards all : List ℕ) {i w : ℕ} {s n : State} {j k : Judging} {x : Tables} {f : Frame} {l : Level} {ws : List ℕ} (t : List ℕ)
-    (d : decode_word w ≡ decoded.Frame f) (g : step_frame f s ≡ stepped (outcome.Next l) n) (o : OneFrame guards i f s j n k) (rest : Pass guards (suc i) n k ws)
+    (d : decode_word w ≡ Ok f) (g : step_frame f s ≡ stepped (Ok l) n) (o : OneFrame guards i f s j n k) (rest : Pass guards (suc i) n k ws)
     (e : drop i all ≡ w ∷ ws) (h : Kept s j x) (reached : Reached all i s) (below : Marks (λ v b. b < i) s j x) where
   r : InRange f
   r = decoded_in_range w f d
@@ -63,7 +60,7 @@ module _ (guards all : List ℕ) {i w : ℕ} {s n : State} {j k : Judging} {x : 
       q : (i < length all) × (get_or all i 0 ≡ w) × (drop (suc i) all ≡ ws)
       q = rest_of all i w ws e
 
-      is : decode_word (get_or all i 0) ≡ decoded.Frame f
+      is : decode_word (get_or all i 0) ≡ Ok f
       is = ap decode_word q.1 ∙ d
 
       t' : List ℕ
@@ -86,7 +83,7 @@ module _ (guards all : List ℕ) {i w : ℕ} {s n : State} {j k : Judging} {x : 
       go false z =
           let inside : get_or s.depths (thread_of f) 0 ≡ 0 → ⊥ = eqb-false _ _ z in
           let elsewhere : Marks (λ v b. b ≡ i → ⊥) s j x = λ v y c. let a = below v y in omega arith in (
-            λ y. let same : y.frame ≡ f = let c : decoded.Frame y.frame ≡ decoded.Frame f = sym y.is ∙ is in cc in
+            λ y. let same : y.frame ≡ f = let c : ◌≡◌ {A = Result Frame Refusal} (Ok y.frame) (Ok f) = sym y.is ∙ is in cc in
                 absurd (inside (sym (reached_depth all i s reached (thread_of f)) ∙ (ap (λ (c : Frame). depth_after all (thread_of c) i) (sym same) ∙ y.outside))),
             λ y. quiet guards i t' rest (kept_next guards r g o h) (omega arith) (marks_next guards r g o h (λ v b. b ≡ i → ⊥) elsewhere (λ c a. inside c))
                 ∙ stays guards r g o h i t (marks_here guards r g o h (λ v b. b ≡ i → ⊥) elsewhere (λ c a. inside c)),
@@ -144,7 +141,7 @@ ahead guards all p {x = x} t (on {i = i} {s = s} {j = j} {w = w} {ws = ws} {f = 
 module _ (guards ws t : List ℕ) (red : Reducible guards ws) where
   -- a reducible recording is not too long
   not_too_long : commit_places guards ws t ≡ commits_of guards ws t
-  not_too_long = rw (le-leb (length ws) most_frames (judgement_fits guards full_sets ws verdict.Reducible red))
+  not_too_long = rw (le-leb (length ws) most_frames (judgement_fits guards full_sets ws (Ok tt) red))
 
   keeps_length : length (commit_places guards ws t) ≡ length t
   keeps_length = ap length not_too_long ∙ walk_long guards 0 start_tables ws t
@@ -184,14 +181,14 @@ commit_places_are_commits guards ws t red = record {
 }
 
 -- a list that is accepted, and a recording that is sound: the reply, and what is left
-module _ (j : Judgement) (list ws t : List ℕ) (n : ℕ) (read : (guards_under j list).reply ≡ guards.Lines n) (red : Reducible (guards_under j list).table ws) where
-  replies : commits_under j list ws ≡ order.Written (length ws)
+module _ (j : Judgement) (list ws t : List ℕ) (n : ℕ) (read : (guards_under j list).reply ≡ Ok n) (red : Reducible (guards_under j list).table ws) where
+  replies : commits_under j list ws ≡ Ok (length ws)
   unfolding commits_under
-  replies = rw (read, judgement_sound (guards_under j list).table full_sets ws verdict.Reducible red)
+  replies = rw (read, judgement_sound (guards_under j list).table full_sets ws (Ok tt) red)
 
   leaves : commits_out_under j list ws t ≡ commit_places (guards_under j list).table ws t
   unfolding commits_out_under
-  leaves = rw (read, judgement_sound (guards_under j list).table full_sets ws verdict.Reducible red)
+  leaves = rw (read, judgement_sound (guards_under j list).table full_sets ws (Ok tt) red)
 
 pub calls_leave_commits : CallsLeaveCommits
 calls_leave_commits j list ws t n read red = record {

@@ -1,5 +1,6 @@
 -- What the walk leaves in one entry of the table. In this order: the starts of units that have not committed, as a frame leaves them; the unit
 -- that a frame commits; an entry that no such unit has; the entry of one.
+use Rattle.std.specs.Prelude.{Result, Ok, Err, Option, Some, None}
 use Prim.Native.Nat.{ℕ, suc, ◌+◌, ◌≤◌, ◌<◌}
 use mathlib.Core.Path.{◌≡◌, refl, sym, ap, ◌∙◌, subst}
 use mathlib.Core.Bool.{Bool, true, false, cond, not, ◌&&◌, ◌||◌}
@@ -14,15 +15,10 @@ use Rattle.laws.proofs.Logic.{never, by_test}
 use Rattle.laws.proofs.Lists.{get_or_set}
 use Rattle.frame.specs.Frame.{decode_word, InRange}
 use Rattle.frame.specs.declared.Frame.{Frame}
-use Rattle.frame.specs.declared.Decoded.{Decoded}
-use Rattle.frame.specs.declared.Decoded.TheVariants as decoded
 use Rattle.frame.proofs.Laws.{decoded_in_range}
 use Rattle.soundness.specs.Soundness.{State, stepped, step_frame, nest}
-use Rattle.soundness.specs.declared.Outcome.TheVariants as outcome
 use Rattle.soundness.specs.declared.Level.{Level}
 use Rattle.instrumented.specs.Rules.{Judging}
-use Rattle.reply.specs.declared.Mark.{Mark}
-use Rattle.reply.specs.declared.Mark.TheVariants.{At, Absent}
 use Rattle.exchange.specs.Exchange.{frames_of}
 use Rattle.commit.specs.Commit.{Tables, start_in, visited, unit_start}
 use Rattle.reduction.proofs.Run as run
@@ -31,6 +27,7 @@ use Rattle.orderlaws.proofs.View.{view_of, OneFrame}
 use Rattle.orderlaws.proofs.Recording.{Pass, end, on}
 use Rattle.orderlaws.proofs.Walk.{Kept, kept_next, commits_are}
 use Rattle.commitplaces.specs.CommitPlaces.{noted, commits_from}
+use Rattle.frame.specs.declared.Refusal.{Refusal}
 
 -- a thread that is neither outside nor after commit
 unsettled : (a b : Bool) → (a || not b) ≡ false → (a ≡ false) × (b ≡ true)
@@ -52,8 +49,8 @@ Marks Q s j x = (v : ℕ) → run.settled (view_of s j) v ≡ false → Q v (get
 
 -- the mark of the unit that a frame commits
 mark_commits : (b i : ℕ) (a z : Bool) (m c : ℕ) (k : Bool) → eqb m 0 ≡ k → eqb c 0 ≡ k
-    → cond (eqb m 0) (cond (a || z) (At b) Absent) Absent
-    ≡ cond (eqb c 0 && (z || not (eqb (cond z 0 (cond (a && eqb c 0) (suc i) c)) 0))) (At b) Absent
+    → cond (eqb m 0) (cond (a || z) (Some b) None) None
+    ≡ cond (eqb c 0 && (z || not (eqb (cond z 0 (cond (a && eqb c 0) (suc i) c)) 0))) (Some b) None
 mark_commits b i a z m c false em ec = rw (em, ec)
 mark_commits b i true true m c true em ec = rw (em, ec)
 mark_commits b i true false m c true em ec = rw (em, ec, ne_eqb (suc i) 0 (λ k. omega arith))
@@ -61,28 +58,28 @@ mark_commits b i false true m c true em ec = rw (em, ec)
 mark_commits b i false false m c true em ec = rw (em, ec)
 
 -- an entry after a unit is noted: of another start; where none commits; of its own
-noted_other : (c z : Bool) (b i p : ℕ) (t : List ℕ) → (c ≡ true → b ≡ p → ⊥) → get_or (noted (cond (c && z) (At b) Absent) i t) p 0 ≡ get_or t p 0
+noted_other : (c z : Bool) (b i p : ℕ) (t : List ℕ) → (c ≡ true → b ≡ p → ⊥) → get_or (noted (cond (c && z) (Some b) None) i t) p 0 ≡ get_or t p 0
 noted_other true true b i p t a = get_or-set_other t b p (i + 1) 0 (λ e. a refl (sym e))
 noted_other true false b i p t a = refl
 noted_other false z b i p t a = refl
 
-noted_none : (c z : Bool) (b i p : ℕ) (t : List ℕ) → z ≡ false → get_or (noted (cond (c && z) (At b) Absent) i t) p 0 ≡ get_or t p 0
+noted_none : (c z : Bool) (b i p : ℕ) (t : List ℕ) → z ≡ false → get_or (noted (cond (c && z) (Some b) None) i t) p 0 ≡ get_or t p 0
 noted_none true z b i p t e = rw e
 noted_none false z b i p t e = refl
 
-noted_own : (c z : Bool) (b i p : ℕ) (t : List ℕ) → p < length t → c ≡ true → z ≡ true → b ≡ p → get_or (noted (cond (c && z) (At b) Absent) i t) p 0 ≡ i + 1
+noted_own : (c z : Bool) (b i p : ℕ) (t : List ℕ) → p < length t → c ≡ true → z ≡ true → b ≡ p → get_or (noted (cond (c && z) (Some b) None) i t) p 0 ≡ i + 1
 noted_own c z b i p t l ec ez eb = rw (ec, ez, eb) (get_or-set_same t p (i + 1) 0 l)
 
 -- What an entry is to be: one more than the unit's commit c where that is in the recording of length m, and else what it was.
 abbrev pub entry : ℕ → ℕ → ℕ → ℕ
 entry m c old = cond (ltb c m) (c + 1) old
 
-pub noted_long : (m : Mark) (i : ℕ) (t : List ℕ) → length (noted m i t) ≡ length t
-noted_long (At b) i t = length-set t b (i + 1)
-noted_long Absent i t = refl
+pub noted_long : (m : Option ℕ) (i : ℕ) (t : List ℕ) → length (noted m i t) ≡ length t
+noted_long (Some b) i t = length-set t b (i + 1)
+noted_long None i t = refl
 
 module _ (guards : List ℕ) {i : ℕ} {s n : State} {j k : Judging} {x : Tables} {f : Frame} {l : Level} (r : InRange f)
-    (g : step_frame f s ≡ stepped (outcome.Next l) n) (o : OneFrame guards i f s j n k) (h : Kept s j x) where
+    (g : step_frame f s ≡ stepped (Ok l) n) (o : OneFrame guards i f s j n k) (h : Kept s j x) where
   -- where the unit of the frame starts
   abbrev pub from : ℕ
   from = start_in (get_or s.depths (thread_of f) 0) i (get_or x.starts (thread_of f) 0)
@@ -121,7 +118,7 @@ module _ (guards : List ℕ) {i : ℕ} {s n : State} {j k : Judging} {x : Tables
       (λ q. subst (λ (y : ℕ). Q v y) (sym (starts_next v ∙ rw q)) (m v (sym (other_settled v q) ∙ (sym (settled_next v) ∙ e))))
 
   -- the unit that the frame commits
-  unit_start_lem : unit_start guards i f x ≡ cond (eqb ((view_of s j).committed (thread_of f)) 0 && run.settled (onto guards (view_of s j) i f) (thread_of f)) (At from) Absent
+  unit_start_lem : unit_start guards i f x ≡ cond (eqb ((view_of s j).committed (thread_of f)) 0 && run.settled (onto guards (view_of s j) i f) (thread_of f)) (Some from) None
   unfolding unit_start
   unit_start_lem =
       rw (commits_are guards f g h, h.depths_are, eq-eqb (thread_of f) (thread_of f) refl)
@@ -149,11 +146,11 @@ unfolding commits_from
 walk_long guards i x [] t = refl
 walk_long guards i x (w ∷ ws) t = go (decode_word w) refl (λ f. walk_long guards (i + 1) (visited guards i f x) ws (noted (unit_start guards i f x) i t))
   where
-    go : (q : Decoded) → decode_word w ≡ q
+    go : (q : Result Frame Refusal) → decode_word w ≡ q
         → ((f : Frame) → length (commits_from guards (i + 1) (visited guards i f x) ws (noted (unit_start guards i f x) i t)) ≡ length (noted (unit_start guards i f x) i t))
         → length (commits_from guards i x (w ∷ ws) t) ≡ length t
-    go (decoded.Frame f) e ih = rw e (ih f ∙ noted_long (unit_start guards i f x) i t)
-    go (decoded.Bad y) e ih = rw e
+    go (Ok f) e ih = rw e (ih f ∙ noted_long (unit_start guards i f x) i t)
+    go (Err y) e ih = rw e
 
 module _ (guards : List ℕ) (p : ℕ) where
   -- An entry that no unit has that is still to commit.
@@ -170,7 +167,7 @@ module _ (guards : List ℕ) (p : ℕ) where
 
   -- The frame's own unit, which starts at p: it commits with the frame, or is still to commit.
   module _ (whole : ℕ) {i : ℕ} {s n : State} {j k : Judging} {x : Tables} {f : Frame} {l : Level} {ws : List ℕ} (t : List ℕ) (r : InRange f)
-      (g : step_frame f s ≡ stepped (outcome.Next l) n) (o : OneFrame guards i f s j n k) (h : Kept s j x) where
+      (g : step_frame f s ≡ stepped (Ok l) n) (o : OneFrame guards i f s j n k) (h : Kept s j x) where
     pub owned : Pass guards (suc i) n k ws → p < length t → p ≤ i → i < whole → from guards r g o h ≡ p → eqb ((view_of s j).committed (thread_of f)) 0 ≡ true
         → Marks (λ v b. b ≡ p → v ≡ thread_of f) n k (visited guards i f x)
         → (run.settled (onto guards (view_of s j) i f) (thread_of f) ≡ false

@@ -2,16 +2,13 @@
 -- judgement answer and leave is `commits_under`, `commits_out_under`; the commits are `commits` of serial/Order. In this order: where units
 -- start; a table before and after; the two claims.
 -- Quotes are from docs/FORMAT.md.
-use Rattle.std.specs.Prelude.{ℕ, ◌+◌, ◌≤◌, ◌<◌, ◌≡◌, List, length, get_or}
+use Rattle.std.specs.Prelude.{ℕ, ◌+◌, ◌≤◌, ◌<◌, ◌≡◌, List, length, get_or, Ok}
 use Rattle.frame.specs.Frame.{decode_word}
 use Rattle.frame.specs.declared.Frame.{Frame}
-use Rattle.frame.specs.declared.Decoded.TheVariants as decoded
 use Rattle.guards.specs.Guards.{guards_under}
 use Rattle.guards.specs.declared.Judgement.{Judgement}
-use Rattle.guards.specs.declared.GuardsReply.TheVariants as guards
 use Rattle.serial.specs.Order.{commits, depth_after}
 use Rattle.rules.specs.Choice.{Reducible}
-use Rattle.order.specs.declared.OrderReply.TheVariants as order
 use Rattle.commitplaces.specs.CommitPlaces.{commit_places}
 use Rattle.unitcommits.specs.UnitCommits.{commits_under, commits_out_under}
 
@@ -19,7 +16,7 @@ use Rattle.unitcommits.specs.UnitCommits.{commits_under, commits_out_under}
 pub record Starts (ws : List ℕ) (i : ℕ) : Type 0 where
   pub within : i < length ws
   pub frame : Frame
-  pub is : decode_word (get_or ws i 0) ≡ decoded.Frame frame
+  pub is : decode_word (get_or ws i 0) ≡ Ok frame
   pub outside : depth_after ws frame.thread.0 i ≡ 0
 
 -- The table t, and what is left in it: the commits of the recording ws with the guards, by the places where the units start.
@@ -40,12 +37,12 @@ CommitPlacesAreCommits = (guards ws t : List ℕ) → Reducible guards ws → Co
 -- What a call for commits answers and leaves, under the guards of its list.
 pub record CommitsLeft (j : Judgement) (list ws t : List ℕ) : Type 0 where
   -- The reply is the recording's length.
-  pub reply : commits_under j list ws ≡ order.Written (length ws)
+  pub reply : commits_under j list ws ≡ Ok (length ws)
   -- The table has the commits.
   pub table : Commits (guards_under j list).table ws t (commits_out_under j list ws t)
 
 -- The same of the calls, where the guard list is accepted and the recording is reducible with its guards.
 abbrev pub CallsLeaveCommits : Type 0
 CallsLeaveCommits =
-    (j : Judgement) (list ws t : List ℕ) (n : ℕ) → (guards_under j list).reply ≡ guards.Lines n → Reducible (guards_under j list).table ws
+    (j : Judgement) (list ws t : List ℕ) (n : ℕ) → (guards_under j list).reply ≡ Ok n → Reducible (guards_under j list).table ws
     → CommitsLeft j list ws t

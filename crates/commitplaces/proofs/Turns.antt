@@ -1,4 +1,5 @@
 -- The walk, turn by turn.
+use Rattle.std.specs.Prelude.{Ok, Err, Option}
 use Prim.Native.Nat.{ℕ, ◌+◌, ◌<◌, ◌≤◌}
 use mathlib.Core.Path.{◌≡◌, refl, sym, ◌∙◌}
 use mathlib.Core.List.{List}
@@ -9,8 +10,6 @@ use Rattle.frame.specs.Limits.{thread_count, lock_count}
 use Rattle.frame.specs.Frame.{decode_word}
 use Rattle.frame.specs.declared.Frame.{Frame}
 use Rattle.frame.specs.declared.Refusal.{Refusal}
-use Rattle.frame.specs.declared.Decoded.TheVariants as decoded
-use Rattle.reply.specs.declared.Mark.{Mark}
 use Rattle.commit.specs.Commit.{tables_of, start_tables, visited, unit_start}
 use Rattle.walk.proofs.Walks.{Stands, stands_first, stands_next}
 use Rattle.commitplaces.specs.CommitPlaces.{noted, commits_from, commits_of}
@@ -32,11 +31,11 @@ module _ {words guards t₀ t counts depths starts committed : List ℕ} {i : �
 
   module _ (h : i < length words) where
     -- a word that is no frame
-    pub stops : {r : Refusal} → decode_word (get_or words i 0) ≡ decoded.Bad r → t ≡ commits_of guards words t₀
+    pub stops : {r : Refusal} → decode_word (get_or words i 0) ≡ Err r → t ≡ commits_of guards words t₀
     unfolding commits_from
     stops e = sym (rw (drop-cons words i 0 h, e) at inv.written)
 
-    pub next : {f : Frame} → decode_word (get_or words i 0) ≡ decoded.Frame f → {m : Mark} → m ≡ unit_start guards i f (tables_of counts depths starts committed)
+    pub next : {f : Frame} → decode_word (get_or words i 0) ≡ Ok f → {m : (Option ℕ)} → m ≡ unit_start guards i f (tables_of counts depths starts committed)
         → {c d b k : List ℕ} → tables_of c d b k ≡ visited guards i f (tables_of counts depths starts committed) → {t' : List ℕ} → length t' ≡ length t → t' ≡ noted m i t
         → Inv words guards t₀ t' c d b k (i + 1)
     unfolding commits_from

@@ -1,22 +1,19 @@
 -- Where each unit of a recording commits, in a table by the place where it starts.
-use Rattle.std.specs.Prelude.{ℕ, ◌+◌, cond, List, [], ◌∷◌, leb, length, set}
+use Rattle.std.specs.Prelude.{ℕ, ◌+◌, cond, List, [], ◌∷◌, leb, length, set, Result, Ok, Err, Option, Some, None}
 use Rattle.frame.specs.Limits.{most_frames}
 use Rattle.frame.specs.Frame.{decode_word}
 use Rattle.frame.specs.declared.Frame.{Frame}
-use Rattle.frame.specs.declared.Decoded.{Decoded}
-use Rattle.frame.specs.declared.Decoded.TheVariants as decoded
-use Rattle.reply.specs.declared.Mark.{Mark}
-use Rattle.reply.specs.declared.Mark.TheVariants.{At, Absent}
 use Rattle.commit.specs.Commit.{Tables, start_tables, visited, unit_start}
+use Rattle.frame.specs.declared.Refusal.{Refusal}
 
 -- The unit that starts at b commits at i: that place, plus 1 (`set` beyond the end changes nothing).
-abbrev pub noted : Mark → ℕ → List ℕ → List ℕ
-noted (At b) i t = set t b (i + 1)
-noted Absent i t = t
+abbrev pub noted : Option ℕ → ℕ → List ℕ → List ℕ
+noted (Some b) i t = set t b (i + 1)
+noted None i t = t
 
-abbrev pub on_frame : Decoded → List ℕ → (Frame → List ℕ) → List ℕ
-on_frame (decoded.Frame f) t rest = rest f
-on_frame (decoded.Bad r) t rest = t
+abbrev pub on_frame : Result Frame Refusal → List ℕ → (Frame → List ℕ) → List ℕ
+on_frame (Ok f) t rest = rest f
+on_frame (Err r) t rest = t
 
 -- The units that commit from place i on, with the tables as they are there, up to a word that is no frame.
 unfoldable pub commits_from : List ℕ → ℕ → Tables → List ℕ → List ℕ → List ℕ

@@ -6,22 +6,21 @@ ghost use Rattle.std.specs.Prelude.{◌≡◌, ◌<◌, ◌≤◌, length};
 ghost use Rattle.frame.specs.Limits.{most_frames};
 ghost use Rattle.commitplaces.specs.CommitPlaces.{noted, commits_of, commit_places};
 
-use frame::{Decoded, LOCKS, MOST, THREADS, VARIABLES};
-use reply::Mark;
+use frame::{LOCKS, MOST, THREADS, VARIABLES};
 
 // A unit that commits at place i, by its start.
-fn note(commits: &mut [u32], m: Mark, i: u32)
+fn note(commits: &mut [u32], m: Option<u32>, i: u32)
     requires { i < 4294967295 }
     ensures { commits.new ≡ noted m i commits.old }
 {
     match m {
-        Mark::At(b) => {
+        Some(b) => {
             let k = b as usize;
             if k < commits.len() {
                 commits[k] = i + 1;
             }
         }
-        Mark::Absent => {}
+        None => {}
     }
 }
 
@@ -37,7 +36,7 @@ fn walk(words: &[u32], guards: &[u8; VARIABLES], commits: &mut [u32])
     let mut i: usize = 0;
     while i < words.len() {
         let d = frame::decode(words[i]);
-        let Decoded::Frame(f) = d else {
+        let Ok(f) = d else {
             return;
         };
         let start = commit::visit(

@@ -1,5 +1,6 @@
 -- The third term. In this order: what the comparison's Equal shows; the serial order of a reducible, closed recording; a request for it and
 -- its refusals; the term; the one place of 14.
+use Rattle.std.specs.Prelude.{Result, Ok, Err, Option, Some, None}
 use Prim.Native.Nat.{ℕ, ◌+◌, ◌≤◌}
 use mathlib.Core.Path.{◌≡◌, refl, sym, ap, ◌∙◌}
 use mathlib.Core.Logic.{◌↔◌}
@@ -15,27 +16,15 @@ use Rattle.turn.specs.Turn.{judge_frame}
 use Rattle.laws.proofs.Logic.{never, by_test}
 use Rattle.frame.specs.Frame.{decode_word}
 use Rattle.frame.specs.declared.Frame.{Frame}
-use Rattle.frame.specs.declared.Decoded.TheVariants as decoded
 use Rattle.frame.specs.declared.Refused.{Refused}
 use Rattle.frame.specs.declared.Refusal.{Refusal}
 use Rattle.frame.specs.declared.Refusal.TheVariants as refusal
-use Rattle.guards.specs.declared.GuardsReply.{GuardsReply}
-use Rattle.guards.specs.declared.GuardsReply.TheVariants as guards
 use Rattle.guards.specs.Guards.{guards_under}
 use Rattle.guards.specs.declared.Judgement.{Judgement}
 use Rattle.soundness.proofs.Laws.{check_short, sound_fits, sound_first}
 use Rattle.soundness.specs.Soundness.{State, stepped, step_frame, check_from, check_reply, start}
-use Rattle.soundness.specs.declared.CheckReply.{CheckReply}
-use Rattle.soundness.specs.declared.CheckReply.TheVariants as check
-use Rattle.soundness.specs.declared.Outcome.TheVariants as outcome
 use Rattle.soundness.specs.declared.Level.{Level}
-use Rattle.reply.specs.Reply.{reducible, violated}
-use Rattle.reply.specs.declared.Mark.{Mark}
-use Rattle.reply.specs.declared.Mark.TheVariants.{At, Absent}
-use Rattle.reply.specs.declared.Reply.{Reply}
-use Rattle.reply.specs.declared.Reply.TheVariants as reply
-use Rattle.reply.specs.declared.Verdict.{Verdict}
-use Rattle.reply.specs.declared.Verdict.TheVariants as verdict
+use Rattle.reply.specs.Reply.{reducible, violated, Reply, Verdict}
 use Rattle.instrumented.specs.Rules.{Judging, judged}
 use Rattle.pass.proofs.Judgement.{judgement_sound}
 use Rattle.rules.specs.Choice.{Reducible}
@@ -43,37 +32,34 @@ use Rattle.exchange.proofs.Sound.{exchanges_sound}
 use Rattle.exchange.specs.Exchange.{Exchanges, independent_words}
 use Rattle.equal.proofs.Exchanges.{equal_is_exchanges}
 use Rattle.equal.specs.Equal.{after_checks, equal_words, equal_reply}
-use Rattle.equal.specs.declared.EqualReply.TheVariants as equal
 use Rattle.serial.specs.Order.{serial_words, Closed, Open}
 use Rattle.orderlaws.proofs.Order.{order_exchanges, order_contiguous, closed_open}
 use Rattle.orderlaws.proofs.Open.{none_closed, first_open_lem}
 use Rattle.order.specs.Order as asked_for
 use Rattle.order.specs.Order.{reducible_reply, closed_reply, reply_by, out_after, on_list, reply_under, order_under, out_under}
-use Rattle.order.specs.declared.OrderReply.{OrderReply}
-use Rattle.order.specs.declared.OrderReply.TheVariants as order
 use Rattle.demand.specs.Demand.{Sound, RefusedBy, in_list, in_recording, irreducible, still_open, no_room, Asked, ThirdTerm, OneFirstOpen}
 
 -- recordings that compare as equal are sound
-equal_sound : (p q : CheckReply) (b : Bool) → after_checks p q b ≡ equal.Equal → (p ≡ check.Sound) × (q ≡ check.Sound)
-equal_sound (check.Refused x) q b e = never (cc)
-equal_sound check.Sound (check.Refused x) b e = never (cc)
-equal_sound check.Sound check.Sound b e = (refl, refl)
+equal_sound : (p q : Result Unit Refused) (b : Bool) → after_checks p q b ≡ Ok true → (p ≡ (Ok tt)) × (q ≡ (Ok tt))
+equal_sound (Err x) q b e = never (cc)
+equal_sound (Ok tt) (Err x) b e = never (cc)
+equal_sound (Ok tt) (Ok tt) b e = (refl, refl)
 
-equal_exactly : (left right : List ℕ) → equal_reply left right ≡ equal.Equal ↔ Sound left × Sound right × Exchanges independent_words left right
+equal_exactly : (left right : List ℕ) → equal_reply left right ≡ Ok true ↔ Sound left × Sound right × Exchanges independent_words left right
 equal_exactly left right = (
   λ e. let s = equal_sound (check_reply left) (check_reply right) (equal_words left right) e in (s.0, s.1, (equal_is_exchanges left right s.0 s.1).0 e),
   λ s. (equal_is_exchanges left right s.0 s.1).1 s.2,
 )
 
-order_equal : (table ws : List ℕ) → Reducible table ws → Closed ws → equal_reply ws (serial_words table ws) ≡ equal.Equal
+order_equal : (table ws : List ℕ) → Reducible table ws → Closed ws → equal_reply ws (serial_words table ws) ≡ Ok true
 order_equal table ws r c =
     let x = order_exchanges table ws r c in
-    let s = judgement_sound table full_sets ws verdict.Reducible r in
+    let s = judgement_sound table full_sets ws (Ok tt) r in
     (equal_exactly ws (serial_words table ws)).1 (s, exchanges_sound x s, x)
 
 -- the pass of a recording that is sound from here on refuses nothing
-pass_refuses : (table : List ℕ) (i : ℕ) (s : State) (j : Judging) (ws : List ℕ) (x : Refused) → (check_from i s ws).reply ≡ check.Sound
-    → (judge_from table i s j ws).reply ≡ reply.Refused x → ⊥
+pass_refuses : (table : List ℕ) (i : ℕ) (s : State) (j : Judging) (ws : List ℕ) (x : Refused) → (check_from i s ws).reply ≡ (Ok tt)
+    → (judge_from table i s j ws).reply ≡ Err x → ⊥
 unfolding judge_from
 pass_refuses table i s j [] x c e = never (cc)
 pass_refuses table i s j (w ∷ ws) x c e =
@@ -81,72 +67,72 @@ pass_refuses table i s j (w ∷ ws) x c e =
     go a.frame a.level a.next a.is a.passes (judge_frame table i a.frame s j).verdict (judge_frame table i a.frame s j).judging refl
     (λ k. pass_refuses table (i + 1) a.next k ws x a.rest)
   where
-    go : (f : Frame) (y : Level) (n : State) → decode_word w ≡ decoded.Frame f → step_frame f s ≡ stepped (outcome.Next y) n
-        → (v : Verdict) (k : Judging) → judge_frame table i f s j ≡ judged v k → ((k : Judging) → (judge_from table (i + 1) n k ws).reply ≡ reply.Refused x → ⊥) → ⊥
-    go f y n d g verdict.Reducible k q ih = ih k (rw (d, q, g) at e)
-    go f y n d g (verdict.Violated v) k q ih = let z : violated v ≡ reply.Refused x = rw (d, q, g) at e in never (cc)
+    go : (f : Frame) (y : Level) (n : State) → decode_word w ≡ Ok f → step_frame f s ≡ stepped (Ok y) n
+        → (v : Verdict) (k : Judging) → judge_frame table i f s j ≡ judged v k → ((k : Judging) → (judge_from table (i + 1) n k ws).reply ≡ Err x → ⊥) → ⊥
+    go f y n d g (Ok tt) k q ih = ih k (rw (d, q, g) at e)
+    go f y n d g (Err v) k q ih = let z : violated v ≡ Err x = rw (d, q, g) at e in never (cc)
 
 -- a recording that its judgement refuses is refused by the check
-judgement_refused : (table ws : List ℕ) (x : Refused) → (judgement table full_sets ws).reply ≡ reply.Refused x → check_reply ws ≡ check.Refused x
+judgement_refused : (table ws : List ℕ) (x : Refused) → (judgement table full_sets ws).reply ≡ Err x → check_reply ws ≡ Err x
 unfolding judgement
 judgement_refused table ws x e = go (check_reply ws) refl
   where
-    go : (q : CheckReply) → check_reply ws ≡ q → check_reply ws ≡ check.Refused x
-    go check.Sound f = absurd (pass_refuses table 0 start (start_judging full_sets) ws x (sym (check_short ws (sound_fits ws f)) ∙ f) (rw f at e))
-    go (check.Refused y) f = let g : reply.Refused y ≡ reply.Refused x = rw f at e in let h : y ≡ x = cc in f ∙ ap check.Refused h
+    go : (q : Result Unit Refused) → check_reply ws ≡ q → check_reply ws ≡ Err x
+    go (Ok tt) f = absurd (pass_refuses table 0 start (start_judging full_sets) ws x (sym (check_short ws (sound_fits ws f)) ∙ f) (rw f at e))
+    go (Err y) f = let g : ◌≡◌ {A = Reply} (Err y) (Err x) = rw f at e in let h : y ≡ x = cc in f ∙ ap Err h
 
 -- A request: what is to hold for it to be granted, and that no refusal holds then.
-module _ {A : Type 0} (short : Refusal) (list : GuardsReply) (table ws : List ℕ) (made out : List A) where
+module _ {A : Type 0} (short : Refusal) (list : Result ℕ Refused) (table ws : List ℕ) (made out : List A) where
   abbrev Granted : Type 0
-  Granted = (n : ℕ) × (list ≡ guards.Lines n) × Reducible table ws × Closed ws × (length ws ≤ length out)
+  Granted = (n : ℕ) × (list ≡ Ok n) × Reducible table ws × Closed ws × (length ws ≤ length out)
 
-  not_both : {r : OrderReply} → RefusedBy short list table ws made out r → Granted → ⊥
-  not_both (in_list {x = x} e) g = let z : guards.Refused x ≡ guards.Lines g.0 = sym e ∙ g.1 in never (cc)
+  not_both : {r : (Result ℕ Refused)} → RefusedBy short list table ws made out r → Granted → ⊥
+  not_both (in_list {x = x} e) g = let z : ◌≡◌ {A = Result ℕ Refused} (Err x) (Ok g.0) = sym e ∙ g.1 in never (cc)
   not_both (in_recording {x = x} e c) g =
-      let z : check.Refused x ≡ check.Sound = sym c ∙ judgement_sound table full_sets ws verdict.Reducible g.2 in
+      let z : ◌≡◌ {A = Result Unit Refused} (Err x) (Ok tt) = sym c ∙ judgement_sound table full_sets ws (Ok tt) g.2 in
       never (cc)
   not_both (irreducible {v = v} e j) g = let z : violated v ≡ reducible = sym j ∙ g.2 in never (cc)
   not_both (still_open {b = b} e r o) g = none_closed ws b o g.3
   not_both (no_room e r c h) g = let k : length ws ≤ length out = g.4 in omega arith
 
   -- the request answered by r, which decides what is left
-  abbrev AskedBy : OrderReply → Type 0
+  abbrev AskedBy : Result ℕ Refused → Type 0
   AskedBy r = Asked short list table ws made out r (out_after r made out)
 
-  is_written : Granted → AskedBy (order.Written (length ws))
+  is_written : Granted → AskedBy (Ok (length ws))
   is_written g = record { length_exactly_if = (λ e. g, λ h. refl); written = λ e. refl; refused_by = λ n. absurd (n refl) }
 
-  is_refused : (x : Refused) → RefusedBy short list table ws made out (order.Refused x) → AskedBy (order.Refused x)
+  is_refused : (x : Refused) → RefusedBy short list table ws made out (Err x) → AskedBy (Err x)
   is_refused x by = record { length_exactly_if = (λ e. no e, λ g. absurd (not_both by g)); written = λ e. no e; refused_by = λ n. (by, refl) }
     where
-      no : {A : Type 0} → order.Refused x ≡ order.Written (length ws) → A
+      no : {A : Type 0} → ◌≡◌ {A = Result ℕ Refused} (Err x) (Ok (length ws)) → A
       no e = never (cc)
 
   -- a list that is read
-  module _ (n : ℕ) (read : list ≡ guards.Lines n) where
+  module _ (n : ℕ) (read : list ≡ Ok n) where
     by_room : (b : Bool) → ltb (length out) (length ws) ≡ b → Reducible table ws → Closed ws
-        → AskedBy (cond b (order.Refused (refused_at short (length ws))) (order.Written (length ws)))
+        → AskedBy (cond b (Err (refused_at short (length ws))) (Ok (length ws)))
     by_room true q r c = is_refused _ (no_room read r c (ltb-true (length out) (length ws) q))
     by_room false q r c = is_written (n, read, r, c, ltb-false (length out) (length ws) q)
 
-    by_mark : (m : Mark) → open_at_end (judgement table full_sets ws) ≡ m → Reducible table ws → AskedBy (closed_reply short m (length ws) (length out))
-    by_mark (At b) q r = is_refused _ (still_open read r (first_open_lem table ws r b q))
-    by_mark Absent q r = by_room (ltb (length out) (length ws)) refl r (closed_open table ws r q)
+    by_mark : (m : Option ℕ) → open_at_end (judgement table full_sets ws) ≡ m → Reducible table ws → AskedBy (closed_reply short m (length ws) (length out))
+    by_mark (Some b) q r = is_refused _ (still_open read r (first_open_lem table ws r b q))
+    by_mark None q r = by_room (ltb (length out) (length ws)) refl r (closed_open table ws r q)
 
     by_reply : (q : Reply) → (judgement table full_sets ws).reply ≡ q
         → AskedBy (cond (reducible_reply q) (closed_reply short (open_at_end (judgement table full_sets ws)) (length ws) (length out)) (asked_for.irreducible q))
-    by_reply (reply.Refused x) e = is_refused x (in_recording read (judgement_refused table ws x e))
-    by_reply (reply.Judged verdict.Reducible) e = by_mark (open_at_end (judgement table full_sets ws)) refl e
-    by_reply (reply.Judged (verdict.Violated v)) e = is_refused _ (irreducible read e)
+    by_reply (Err x) e = is_refused x (in_recording read (judgement_refused table ws x e))
+    by_reply (Ok (Ok tt)) e = by_mark (open_at_end (judgement table full_sets ws)) refl e
+    by_reply (Ok (Err v)) e = is_refused _ (irreducible read e)
 
     when_read : AskedBy (reply_by short table ws (length out))
     unfolding reply_by
     when_read = by_reply (judgement table full_sets ws).reply refl
 
 module _ {A : Type 0} (short : Refusal) where
-  asked : (list : GuardsReply) (table ws : List ℕ) (made out : List A) → AskedBy short list table ws made out (on_list list (reply_by short table ws (length out)))
-  asked (guards.Lines n) table ws made out = when_read short (guards.Lines n) table ws made out n refl
-  asked (guards.Refused x) table ws made out = is_refused short (guards.Refused x) table ws made out x (in_list refl)
+  asked : (list : Result ℕ Refused) (table ws : List ℕ) (made out : List A) → AskedBy short list table ws made out (on_list list (reply_by short table ws (length out)))
+  asked (Ok n) table ws made out = when_read short (Ok n) table ws made out n refl
+  asked (Err x) table ws made out = is_refused short (Err x) table ws made out x (in_list refl)
 
   -- of any call that answers so
   pub asked_under : (j : Judgement) (list ws : List ℕ) (made out : List A)

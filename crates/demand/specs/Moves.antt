@@ -1,12 +1,11 @@
 -- Displacements: one claim over whole recordings, about the definitions that the calls' contracts cite. What `moves::moves` answers and leaves
 -- in the lent list is `moves_under`, `moves_out_under`.
 -- Quotes are from docs/FORMAT.md.
-use Rattle.std.specs.Prelude.{ℕ, ◌+◌, ◌<◌, ◌≤◌, ◌≡◌, List, ℤ, pos, nat_abs, ◌+ℤ◌, length, get_or}
+use Rattle.std.specs.Prelude.{ℕ, ◌+◌, ◌<◌, ◌≤◌, ◌≡◌, List, ℤ, pos, nat_abs, ◌+ℤ◌, length, get_or, Ok}
 use Rattle.frame.specs.declared.Refusal.TheVariants as refusal
 use Rattle.guards.specs.Guards.{guards_under}
 use Rattle.guards.specs.declared.Judgement.{Judgement}
 use Rattle.serial.specs.Order.{in_serial_order}
-use Rattle.order.specs.declared.OrderReply.TheVariants as order
 use Rattle.displacement.specs.Displacement.{displacements, total}
 use Rattle.moves.specs.Moves.{moves_under, moves_out_under}
 use Rattle.demand.specs.Demand.{Asked}
@@ -30,4 +29,4 @@ MovesTerm =
     ((j : Judgement) (list ws : List ℕ) (out : List ℤ)
     → Asked refusal.MovesBuffer (guards_under j list).reply (guards_under j list).table ws (displacements (guards_under j list).table ws) out
     (moves_under j list ws (length out)) (moves_out_under j list ws out))
-    × ((j : Judgement) (list ws : List ℕ) (room n : ℕ) → moves_under j list ws room ≡ order.Written n → Displaced (guards_under j list).table ws)
+    × ((j : Judgement) (list ws : List ℕ) (room n : ℕ) → moves_under j list ws room ≡ Ok n → Displaced (guards_under j list).table ws)

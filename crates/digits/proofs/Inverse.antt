@@ -1,4 +1,5 @@
 -- Reading and writing undo each other: a digit, any number of digits, a word's line.
+use Rattle.std.specs.Prelude.{Some}
 use Prim.Native.Nat.{ℕ, zero, suc, ◌+◌, ◌-◌, ◌*◌, ◌/◌, ◌%◌, ◌≤◌, ◌<◌}
 use mathlib.Core.Path.{◌≡◌, refl, sym, ap, ◌∙◌}
 use mathlib.Core.Bool.{Bool, true, false}
@@ -11,7 +12,6 @@ use lib.Dec.{ltb}
 use borrow.Author.Tests.{lt-ltb, le-ltb, ltb-true, ltb-false}
 use Rattle.laws.proofs.Logic.{never}
 use Rattle.digits.specs.Digits.{Digits, value, none, digit_of, digits_value, line_of, byte_of, digits, word_line, too_wide, WrittenDigitsRead, ReadDigitsWrite}
-use Rattle.digits.specs.declared.Line.TheVariants as line
 use Rattle.digits.proofs.Sums.{digits_bound}
 use Rattle.digits.proofs.Laws.{shown}
 use Rattle.digits.proofs.Writing.{length_digits, length_word_line}
@@ -95,7 +95,7 @@ digits_same n v w h l e =
     let q : value v ≡ value w = sym (written_digits_read n v h) ∙ ap (digits_value 0) e ∙ written_digits_read n w l in cc
 
 -- nine bytes that are a word's line are read as the word
-pub line_read : (s : List ℕ) (at w : ℕ) → w < 4294967296 → take 9 (drop at s) ≡ word_line w → line_of s at ≡ line.Word w
+pub line_read : (s : List ℕ) (at w : ℕ) → w < 4294967296 → take 9 (drop at s) ≡ word_line w → line_of s at ≡ Some w
 unfolding line_of word_line
 line_read s at w h e =
     let n : length (take 9 (drop at s)) ≡ 9 = ap length e ∙ length_word_line w in
@@ -105,7 +105,7 @@ line_read s at w h e =
     rw (le-ltb (length s - at) 9 l, f, d, written_digits_read 8 w h)
 
 -- the nine bytes of a line that is read as a word are the word's line
-pub line_written : (s : List ℕ) (at w : ℕ) → line_of s at ≡ line.Word w → take 9 (drop at s) ≡ word_line w
+pub line_written : (s : List ℕ) (at w : ℕ) → line_of s at ≡ Some w → take 9 (drop at s) ≡ word_line w
 unfolding word_line
 line_written s at w e =
     let h = shown s at w e in
@@ -113,5 +113,5 @@ line_written s at w e =
     let d : digits 8 w ≡ take 8 (drop at s) = rw n at (read_digits_write (take 8 (drop at s)) w h.digits).0 in
     take-suc (drop at s) 8 0 (rw length-drop (omega arith)) ∙ rw (d, get_or-drop at s 8 0, h.linefeed)
 
-pub word_line_read : (w : ℕ) → w < 4294967296 → line_of (word_line w) 0 ≡ line.Word w
+pub word_line_read : (w : ℕ) → w < 4294967296 → line_of (word_line w) 0 ≡ Some w
 word_line_read w h = line_read (word_line w) 0 w h (take_all 9 (word_line w) (omega (arith, length_word_line w)))

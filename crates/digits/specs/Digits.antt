@@ -1,9 +1,7 @@
 -- What digits and a line of eight of them say, and how they are written. In this order: digits read, the values that the code adds up, one
 -- line read; digits written, lines written; the claims that reading and writing undo each other, over any number of digits.
 -- Quotes are from docs/FORMAT.md.
-use Rattle.std.specs.Prelude.{ℕ, zero, suc, ◌+◌, ◌-◌, ◌*◌, ◌/◌, ◌%◌, ◌^◌, ◌≤◌, ◌<◌, ◌≡◌, Bool, true, false, cond, List, [], ◌∷◌, ◌++◌, length, get_or, take, drop, ltb, eqb}
-use Rattle.digits.specs.declared.Line.{Line}
-use Rattle.digits.specs.declared.Line.TheVariants as line
+use Rattle.std.specs.Prelude.{ℕ, zero, suc, ◌+◌, ◌-◌, ◌*◌, ◌/◌, ◌%◌, ◌^◌, ◌≤◌, ◌<◌, ◌≡◌, Bool, true, false, cond, List, [], ◌∷◌, ◌++◌, length, get_or, take, drop, ltb, eqb, Option, Some, None}
 
 -- "digits 0-9 A-F": the value of each, and 16 for any other byte.
 unfoldable pub digit_of : ℕ → ℕ
@@ -54,15 +52,15 @@ value_of b = cond (ltb 15 (digit_of b)) 4294967296 (digit_of b)
 unfoldable pub Values : List ℕ → Type 0
 Values t = (b : ℕ) → b < 256 → get_or t b 0 ≡ value_of b
 
-abbrev pub line_word : Digits → Line
-line_word (value v) = line.Word v
-line_word none = line.Malformed
+abbrev pub line_word : Digits → Option ℕ
+line_word (value v) = Some v
+line_word none = None
 
 -- "On a line it is eight digits 0-9 A-F, top digit first, then one LF": the line that starts at a byte.
-unfoldable pub line_of : List ℕ → ℕ → Line
+unfoldable pub line_of : List ℕ → ℕ → Option ℕ
 line_of s at =
-    cond (ltb (length s - at) 9) line.Malformed
-    (cond (eqb (get_or s (at + 8) 0) 10) (line_word (digits_value 0 (take 8 (drop at s)))) line.Malformed)
+    cond (ltb (length s - at) 9) None
+    (cond (eqb (get_or s (at + 8) 0) 10) (line_word (digits_value 0 (take 8 (drop at s)))) None)
 
 -- Eight digits whose values add up to v: from 2^32 on, one of them is none.
 abbrev pub digits_of_sum : ℕ → Digits

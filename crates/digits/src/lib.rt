@@ -5,13 +5,6 @@
 ghost use Rattle.std.specs.Prelude.{◌≡◌, ◌+◌, ◌*◌, ◌≤◌, ◌<◌, length, take, drop};
 ghost use Rattle.digits.specs.Digits.{Values, value_of, letter_of, digit_of, others, values_of, joined, DigitValues, digits_value, line_of, digits_of_sum, byte_of, digits, pasted, word_line, too_wide};
 
-// The word of a line, or that the line is not eight digits and an LF.
-#[derive(Clone, Copy)]
-pub enum Line {
-    Word(u32),
-    Malformed,
-}
-
 // The value of each byte as a digit, and 2^32 where it is none: eight of them add up to less than 2^32 exactly if all are digits.
 pub fn digit_values() -> [u64; 256]
     ensures { Values result }
@@ -59,22 +52,22 @@ fn eight_digits(t: &[u64; 256], s: &[u8], at: usize) -> u64
 }
 
 // The line that starts at a byte of the text.
-pub fn read_line(t: &[u64; 256], s: &[u8], at: usize) -> Line
+pub fn read_line(t: &[u64; 256], s: &[u8], at: usize) -> Option<u32>
     requires fact_1 { Values t.now }
     requires fact_2 { at ≤ length s.now }
     ensures { result ≡ line_of s.now at }
 {
     if s.len() - at < 9 {
-        return Line::Malformed;
+        return None;
     }
     if s[at + 8] != 10 {
-        return Line::Malformed;
+        return None;
     }
     let v = eight_digits(t, s, at);
     if 4294967295 < v {
-        return Line::Malformed;
+        return None;
     }
-    Line::Word(v as u32)
+    Some(v as u32)
 }
 
 // The value of a byte as one of the digits A-F, and 16 where it is none: its distance from A, counted round.

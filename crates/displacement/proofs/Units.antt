@@ -1,4 +1,5 @@
 -- A unit's displacements, frame by frame: the places of a recording one by one, and the loop over a unit.
+use Rattle.std.specs.Prelude.{Ok}
 use Prim.Native.Nat.{ℕ, zero, suc, ◌+◌, ◌/◌, ◌%◌, ◌<◌, ◌≤◌}
 use mathlib.Core.Path.{◌≡◌, refl, sym, ◌∙◌, ap}
 use mathlib.Core.List.{List, [], ◌∷◌}
@@ -12,7 +13,6 @@ use lib.ListN.{length, get_or, drop, set, length-set}
 use Rattle.frame.specs.Limits.{most_frames}
 use Rattle.frame.specs.declared.Thread.{Thread}
 use Rattle.soundness.specs.Soundness.{check_reply}
-use Rattle.soundness.specs.declared.CheckReply.TheVariants as check
 use Rattle.soundness.proofs.Laws.{sound_fits}
 use Rattle.serial.specs.Walk.{depth_by, unit_from, unit_of}
 use Rattle.serial.proofs.Units.{by_low, other_turn, own_turn, unit_over}
@@ -55,7 +55,7 @@ module _ {ws : List ℕ} {b : ℕ} {t : Thread} {out₀ out : List ℤ} {k at d 
       let e = unit_over ws (places ws) t d i h in
       record { long = inv.long; place = omega (arith, rw e at inv.place); written = sym (rw e at inv.written) }
 
-  module _ (s : check_reply ws ≡ check.Sound) (h : i < length ws) where
+  module _ (s : check_reply ws ≡ (Ok tt)) (h : i < length ws) where
     pub passes_over : (get_or ws i 0 / 65536 % 256 ≡ t.0 → ⊥) → UnitInv ws b t out₀ out k at d (i + 1)
     passes_over ne =
         let e = other_turn ws (places ws) i s h (places_on ws i h) t d ne in

@@ -5,12 +5,10 @@
 ghost use Rattle.std.specs.Prelude.{◌≡◌, ◌+◌, ◌≤◌, ◌<◌, length};
 ghost use Rattle.frame.specs.Limits.{most_frames};
 ghost use Rattle.soundness.specs.Soundness.{check_reply};
-ghost use Rattle.soundness.specs.declared.CheckReply.TheVariants as check;
 ghost use Rattle.serial.specs.Walk.{unit_of, unit_in};
 ghost use Rattle.displacement.specs.Displacement.{places, displacement as displacementOf, moved};
 
 use frame::Thread;
-use reply::Mark;
 
 // The displacement of a frame that is recorded at place p and stands at place k of the order.
 pub fn displacement(k: usize, p: usize) -> i32
@@ -23,7 +21,7 @@ pub fn displacement(k: usize, p: usize) -> i32
 // The displacements of the frames of the unit of thread t that starts at a place and stands in the order from place k on; the place behind it
 // there. Of the words of other threads only the thread is looked at.
 fn move_unit(words: &[u32], begin: usize, t: Thread, moves: &mut [i32], k: usize) -> usize
-    requires fact_1 { check_reply words.now ≡ check.Sound }
+    requires fact_1 { check_reply words.now ≡ (Ok tt) }
     requires fact_2 { length words.now ≤ length moves.old }
     requires fact_3 { k + length (unit_of words.now (places words.now) begin t) ≤ most_frames }
     ensures behind { result ≡ k + length (unit_of words.now (places words.now) begin t) }
@@ -51,14 +49,14 @@ fn move_unit(words: &[u32], begin: usize, t: Thread, moves: &mut [i32], k: usize
 }
 
 // The unit of thread t that starts at a mark; where the mark is absent there is none.
-pub fn move_at(words: &[u32], start: Mark, t: Thread, moves: &mut [i32], k: usize) -> usize
-    requires fact_1 { check_reply words.now ≡ check.Sound }
+pub fn move_at(words: &[u32], start: Option<u32>, t: Thread, moves: &mut [i32], k: usize) -> usize
+    requires fact_1 { check_reply words.now ≡ (Ok tt) }
     requires fact_2 { length words.now ≤ length moves.old }
     requires fact_3 { k + length (unit_in start words.now (places words.now) t) ≤ most_frames }
     ensures behind { result ≡ k + length (unit_in start words.now (places words.now) t) }
     ensures contents { moves.new ≡ moved k (unit_in start words.now (places words.now) t) moves.old }
 {
-    let Mark::At(b) = start else {
+    let Some(b) = start else {
         return k;
     };
     let from = b as usize;

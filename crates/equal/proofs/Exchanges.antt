@@ -1,5 +1,6 @@
 -- Equality is yes or no, and yes exactly if exchanges turn the left recording's words into the right's. In this order: what pulling words
 -- out decides; the claims; and what they say of the lengths.
+use Rattle.std.specs.Prelude.{Result, Ok, Err}
 use Prim.Native.Nat.{ℕ}
 use mathlib.Core.Path.{◌≡◌, refl, sym, ◌∙◌}
 use mathlib.Core.Bool.{Bool, true, false, false≢true}
@@ -8,22 +9,21 @@ use borrow.Author.Tests.{eqb-true, eq-eqb}
 use lib.Dec.{eqb}
 use Rattle.laws.proofs.Logic.{never}
 use Rattle.frame.specs.Frame.{decode_word}
-use Rattle.frame.specs.declared.Decoded.{Decoded}
-use Rattle.frame.specs.declared.Decoded.TheVariants as decoded
 use Rattle.soundness.specs.Soundness.{check_reply}
 use Rattle.exchange.proofs.Exchange.{exchanges_length}
 use Rattle.exchange.proofs.Frames.{apart, sound_all_decode, words_apart, apart_words}
 use Rattle.exchange.proofs.Pull.{pull_exchanges, exchanges_pull}
 use Rattle.exchange.specs.Exchange.{Exchanges, independent_in, independent_words}
-use Rattle.equal.specs.declared.EqualReply.TheVariants.{Equal, Different}
 use Rattle.equal.specs.Equal.{sound, equal_words, yes_or_no, equal_reply, EqualIsExchanges, EqualIsYesOrNo, LengthsDiffer}
+use Rattle.frame.specs.declared.Refusal.{Refusal}
+use Rattle.frame.specs.declared.Frame.{Frame}
 
 never_itself : (w : ℕ) → independent_words w w ≡ true → ⊥
 never_itself w = go (decode_word w)
   where
-    go : (d : Decoded) → independent_in d d ≡ true → ⊥
-    go (decoded.Frame f) e = false≢true (rw (eq-eqb f.thread.0 f.thread.0 refl) at e)
-    go (decoded.Bad r) e = false≢true e
+    go : (d : Result Frame Refusal) → independent_in d d ≡ true → ⊥
+    go (Ok f) e = false≢true (rw (eq-eqb f.thread.0 f.thread.0 refl) at e)
+    go (Err r) e = false≢true e
 
 pub equal_exchanges : (l r : List ℕ) → equal_words l r ≡ true → Exchanges independent_words l r
 equal_exchanges l r e = pull_exchanges independent_words eqb eqb-true (λ w. eq-eqb w w refl) never_itself l r e
@@ -32,13 +32,13 @@ pub exchanges_equal : (l r : List ℕ) → Exchanges independent_words l r → e
 exchanges_equal l r x = exchanges_pull independent_words eqb eqb-true (λ w. eq-eqb w w refl) never_itself l r x
 
 -- the comparison's answer to sound recordings, by exchanges of words whose frames are independent
-pub yes : (l r : List ℕ) → check_reply l ≡ sound → Exchanges apart l r → Equal ≡ yes_or_no (equal_words l r)
+pub yes : (l r : List ℕ) → check_reply l ≡ sound → Exchanges apart l r → Ok true ≡ yes_or_no (equal_words l r)
 yes l r p x = rw (exchanges_equal l r (apart_words (sound_all_decode l p) x))
 
-pub no : (l r : List ℕ) → (Exchanges apart l r → ⊥) → Different ≡ yes_or_no (equal_words l r)
+pub no : (l r : List ℕ) → (Exchanges apart l r → ⊥) → Ok false ≡ yes_or_no (equal_words l r)
 no l r n = go (equal_words l r) refl
   where
-    go : (b : Bool) → equal_words l r ≡ b → Different ≡ yes_or_no b
+    go : (b : Bool) → equal_words l r ≡ b → Ok false ≡ yes_or_no b
     go true e = absurd (n (words_apart (equal_exchanges l r e)))
     go false e = refl
 
@@ -57,7 +57,7 @@ equal_is_exchanges l r p q = (
   λ x. answered l r p q ∙ rw (exchanges_equal l r x),
 )
   where
-    is_yes : (b : Bool) → yes_or_no b ≡ Equal → b ≡ true
+    is_yes : (b : Bool) → yes_or_no b ≡ Ok true → b ≡ true
     is_yes true e = refl
     is_yes false e = never (cc)
 

@@ -1,4 +1,5 @@
 -- Laws of the walk, one for each way that a turn of its loop can go.
+use Rattle.std.specs.Prelude.{Ok, true, false}
 use Prim.Native.Nat.{ℕ, suc, ◌+◌, ◌≤◌, ◌<◌}
 use mathlib.Core.Path.{◌≡◌, refl, sym, ap, subst}
 use mathlib.Core.Logic.{◌↔◌}
@@ -15,13 +16,11 @@ use Rattle.laws.proofs.Lists.{get_or_filled, get_or_stored}
 use Rattle.frame.proofs.Laws.{decoded_in_range}
 use Rattle.frame.specs.Frame.{decode_word, InRange}
 use Rattle.frame.specs.declared.Frame.{Frame}
-use Rattle.frame.specs.declared.Decoded.TheVariants as decoded
 use Rattle.exchange.proofs.Frames.{apart}
 use Rattle.exchange.proofs.Match.{Raised, rest, Well, Fits, rest_all, well_start, well_fits, well_on, well_back, well_end, fits_length}
 use Rattle.exchange.specs.Independent.{clash}
 use Rattle.exchange.specs.Exchange.{Exchanges, frame_in, frame_of}
 use Rattle.soundness.specs.Soundness.{check_reply}
-use Rattle.equal.specs.declared.EqualReply.TheVariants.{Equal, Different}
 use Rattle.equal.specs.Equal.{sound, equal_words, yes_or_no}
 use Rattle.matching.specs.Places.{thread_of, word_at, FoundIn, Lasts, last_at, with_last}
 use Rattle.equal.proofs.Exchanges.{yes, no}
@@ -56,12 +55,12 @@ walk_start l r e = record {
   kept = kept_start;
 }
 
-pub walk_end : {l r : List ℕ} {i : ℕ} {ns : List ℕ} {c : Lasts} → check_reply l ≡ sound → Walking l r i ns c → length l ≤ i → Equal ≡ yes_or_no (equal_words l r)
+pub walk_end : {l r : List ℕ} {i : ℕ} {ns : List ℕ} {c : Lasts} → check_reply l ≡ sound → Walking l r i ns c → length l ≤ i → Ok true ≡ yes_or_no (equal_words l r)
 walk_end {l} {r} {i} {ns} {c} p k h =
     yes l r p (k.same.0 (rw (drop_of_length-le l h) (well_end thread_of clashing (word_at r) (length r) (next_in ns) (last_in c) (omega (arith, k.left)))))
 
 -- The turn at the frame f, whose next of its thread stands at p.
-module _ {l r : List ℕ} {i : ℕ} {ns : List ℕ} {c : Lasts} (k : Walking l r i ns c) (h : i < length l) {f : Frame} (e : decode_word (word_at l i) ≡ decoded.Frame f)
+module _ {l r : List ℕ} {i : ℕ} {ns : List ℕ} {c : Lasts} (k : Walking l r i ns c) (h : i < length l) {f : Frame} (e : decode_word (word_at l i) ≡ Ok f)
     {p : ℕ} (found : FoundIn r f.thread.0 (next_in ns f.thread.0) p) where
   is : f ≡ frame_of (word_at l i)
   is = sym (ap frame_in e)
@@ -78,13 +77,13 @@ module _ {l r : List ℕ} {i : ℕ} {ns : List ℕ} {c : Lasts} (k : Walking l r
   fits : Exchanges apart l r → Fit
   fits x = well_fits thread_of clashing (word_at r) (length r) (next_in ns) (last_in c) (word_at l i) p here (drop (suc i) l) (rw opened at (k.same.1 x))
 
-  pub missing : p ≡ length r → Different ≡ yes_or_no (equal_words l r)
+  pub missing : p ≡ length r → Ok false ≡ yes_or_no (equal_words l r)
   missing q = no l r (λ x. omega (arith, (fits x).inside))
 
-  pub words_differ : (word_at r p ≡ word_at l i → ⊥) → Different ≡ yes_or_no (equal_words l r)
+  pub words_differ : (word_at r p ≡ word_at l i → ⊥) → Ok false ≡ yes_or_no (equal_words l r)
   words_differ q = no l r (λ x. q (sym (fits x).is))
 
-  pub too_early : p + 1 ≤ last_at f.action c → Different ≡ yes_or_no (equal_words l r)
+  pub too_early : p + 1 ≤ last_at f.action c → Ok false ≡ yes_or_no (equal_words l r)
   too_early q = no l r (λ x. omega (arith, (fits x).after, rw is at q))
 
   range : InRange (frame_of (word_at l i))

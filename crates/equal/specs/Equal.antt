@@ -1,34 +1,31 @@
 -- What the comparison of two recordings answers, and the claim that it is equality up to exchanges.
 -- Quotes are from docs/FORMAT.md.
-use Rattle.std.specs.Prelude.{ℕ, ◌≡◌, ◌↔◌, Bool, cond, List, eqb, length}
+use Rattle.std.specs.Prelude.{ℕ, ◌≡◌, ◌↔◌, Bool, cond, List, eqb, length, Result, Ok, Err, true, false}
 use Rattle.soundness.specs.Soundness.{check_reply}
-use Rattle.soundness.specs.declared.CheckReply.{CheckReply}
-use Rattle.soundness.specs.declared.CheckReply.TheVariants as check
 use Rattle.exchange.specs.Exchange.{Exchanges, independent_words}
 use Rattle.exchange.specs.Pull.{pull_all}
 use Rattle.equal.specs.declared.Side.TheVariants.{Left, Right}
-use Rattle.equal.specs.declared.EqualReply.{EqualReply}
-use Rattle.equal.specs.declared.EqualReply.TheVariants.{Equal, Different, Refused}
+use Rattle.equal.specs.declared.RefusedSide.{RefusedSide}
 
 -- The check's reply to a recording that has no refusal.
-abbrev pub sound : CheckReply
-sound = check.Sound
+abbrev pub sound : Result Unit Refused
+sound = (Ok tt)
 
 -- "Equality is yes or no, yes exactly then; recordings of different length are not equal." Each word of the left in turn can be pulled out of
 -- the right past words that are independent of it, and nothing is left of the right.
 abbrev pub equal_words : List ℕ → List ℕ → Bool
 equal_words l r = pull_all eqb independent_words l r
 
-abbrev pub yes_or_no : Bool → EqualReply
-yes_or_no b = cond b Equal Different
+abbrev pub yes_or_no : Bool → Result Bool RefusedSide
+yes_or_no b = Ok b
 
 -- "In the comparison of two recordings the left is checked whole before the right, and the refusal says which side."
-abbrev pub after_checks : CheckReply → CheckReply → Bool → EqualReply
-after_checks (check.Refused x) q b = Refused Left x
-after_checks check.Sound (check.Refused x) b = Refused Right x
-after_checks check.Sound check.Sound b = yes_or_no b
+abbrev pub after_checks : Result Unit Refused → Result Unit Refused → Bool → Result Bool RefusedSide
+after_checks (Err x) q b = Err (record { side = Left; refused = x })
+after_checks (Ok tt) (Err x) b = Err (record { side = Right; refused = x })
+after_checks (Ok tt) (Ok tt) b = yes_or_no b
 
-abbrev pub equal_reply : List ℕ → List ℕ → EqualReply
+abbrev pub equal_reply : List ℕ → List ℕ → Result Bool RefusedSide
 equal_reply l r = after_checks (check_reply l) (check_reply r) (equal_words l r)
 
 -- "Two recordings are equal exactly if some number of exchanges, 0 included, each made on what the one before left, turns the left into
@@ -36,7 +33,7 @@ equal_reply l r = after_checks (check_reply l) (check_reply r) (equal_words l r)
 abbrev pub EqualIsExchanges : Type 0
 EqualIsExchanges =
     (l r : List ℕ)
-    → check_reply l ≡ sound → check_reply r ≡ sound → (equal_reply l r ≡ Equal ↔ Exchanges independent_words l r)
+    → check_reply l ≡ sound → check_reply r ≡ sound → (equal_reply l r ≡ Ok true ↔ Exchanges independent_words l r)
 
 -- "Equality is yes or no": of two recordings that pass the check there is no refusal.
 abbrev pub EqualIsYesOrNo : Type 0
@@ -47,4 +44,4 @@ EqualIsYesOrNo =
 -- "recordings of different length are not equal"
 abbrev pub LengthsDiffer : Type 0
 LengthsDiffer =
-    (l r : List ℕ) → check_reply l ≡ sound → check_reply r ≡ sound → (length l ≡ length r → ⊥) → equal_reply l r ≡ Different
+    (l r : List ℕ) → check_reply l ≡ sound → check_reply r ≡ sound → (length l ≡ length r → ⊥) → equal_reply l r ≡ Ok false

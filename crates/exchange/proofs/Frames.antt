@@ -1,5 +1,6 @@
 -- The words of a sound recording decode, so its frames stand for them: each is in its ranges, and its word is the recording's. Exchanges of
 -- words are exchanges of frames.
+use Rattle.std.specs.Prelude.{Result, Ok, Err}
 use Prim.Native.Nat.{ℕ, zero, suc, ◌+◌, ◌<◌}
 use mathlib.Core.Path.{◌≡◌, refl, sym, ◌∙◌, subst}
 use mathlib.Core.Bool.{Bool, true, false≢true}
@@ -9,19 +10,17 @@ use lib.ListN.{length, get_or}
 use Rattle.frame.proofs.Laws.{decoded_in_range, encode_decode, decode_encode}
 use Rattle.frame.specs.Frame.{decode_word, encode_frame, InRange}
 use Rattle.frame.specs.declared.Frame.{Frame}
-use Rattle.frame.specs.declared.Decoded.{Decoded}
-use Rattle.frame.specs.declared.Decoded.TheVariants as decoded
 use Rattle.soundness.proofs.Laws.{check_short, sound_fits, sound_first}
 use Rattle.soundness.specs.Soundness.{State, check_from, check_reply, start}
-use Rattle.soundness.specs.declared.CheckReply.TheVariants as check
 use Rattle.exchange.specs.Independent.{independent}
 use Rattle.exchange.specs.Exchange.{Exchange, here, later, Exchanges, done, step, independent_in, independent_words, frame_in, frame_of, frames_of}
+use Rattle.frame.specs.declared.Refusal.{Refusal}
 
 -- The word decodes, as its frame.
 abbrev pub Decodes : ℕ → Type 0
-Decodes w = decode_word w ≡ decoded.Frame (frame_of w)
+Decodes w = decode_word w ≡ Ok (frame_of w)
 
-decodes_as : (w : ℕ) (f : Frame) → decode_word w ≡ decoded.Frame f → Decodes w
+decodes_as : (w : ℕ) (f : Frame) → decode_word w ≡ Ok f → Decodes w
 decodes_as w f e = rw e
 
 pub frame_in_range : (w : ℕ) → Decodes w → InRange (frame_of w)
@@ -34,14 +33,14 @@ abbrev pub AllDecode : List ℕ → Type 0
 AllDecode [] = Unit {0}
 AllDecode (w ∷ ws) = Decodes w × AllDecode ws
 
-all_decode : (i : ℕ) (s : State) (ws : List ℕ) → (check_from i s ws).reply ≡ check.Sound → AllDecode ws
+all_decode : (i : ℕ) (s : State) (ws : List ℕ) → (check_from i s ws).reply ≡ (Ok tt) → AllDecode ws
 unfolding check_from
 all_decode i s [] e = tt
 all_decode i s (w ∷ ws) e =
     let q = sound_first i s w ws e in
     (decodes_as w q.frame q.is, all_decode (i + 1) q.next ws q.rest)
 
-pub sound_all_decode : (ws : List ℕ) → check_reply ws ≡ check.Sound → AllDecode ws
+pub sound_all_decode : (ws : List ℕ) → check_reply ws ≡ (Ok tt) → AllDecode ws
 sound_all_decode ws e = all_decode 0 start ws (sym (check_short ws (sound_fits ws e)) ∙ e)
 
 decodes_at : (ws : List ℕ) → AllDecode ws → (i : ℕ) → i < length ws → Decodes (get_or ws i 0)
@@ -49,7 +48,7 @@ decodes_at [] d i h = absurd (omega arith)
 decodes_at (w ∷ ws) d zero h = d.0
 decodes_at (w ∷ ws) d (suc i) h = decodes_at ws d.1 i (omega arith)
 
-pub sound_decodes : (ws : List ℕ) → check_reply ws ≡ check.Sound → (i : ℕ) → i < length ws → Decodes (get_or ws i 0)
+pub sound_decodes : (ws : List ℕ) → check_reply ws ≡ (Ok tt) → (i : ℕ) → i < length ws → Decodes (get_or ws i 0)
 sound_decodes ws e = decodes_at ws (sound_all_decode ws e)
 
 -- Two words whose frames are independent.
@@ -57,10 +56,10 @@ abbrev pub apart : ℕ → ℕ → Bool
 apart w v = independent (frame_of w) (frame_of v)
 
 -- words are independent where their frames are, and the other way round where both decode
-in_apart : (d e : Decoded) → independent_in d e ≡ true → independent (frame_in d) (frame_in e) ≡ true
-in_apart (decoded.Frame f) (decoded.Frame g) h = h
-in_apart (decoded.Frame f) (decoded.Bad r) h = absurd (false≢true h)
-in_apart (decoded.Bad r) e h = absurd (false≢true h)
+in_apart : (d e : Result Frame Refusal) → independent_in d e ≡ true → independent (frame_in d) (frame_in e) ≡ true
+in_apart (Ok f) (Ok g) h = h
+in_apart (Ok f) (Err r) h = absurd (false≢true h)
+in_apart (Err r) e h = absurd (false≢true h)
 
 apart_in : (w v : ℕ) → Decodes w → Decodes v → apart w v ≡ true → independent_words w v ≡ true
 apart_in w v d e h = rw (d, e) h

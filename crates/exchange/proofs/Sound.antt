@@ -1,5 +1,6 @@
 -- Exchanges keep a recording sound, and the state at its end. In this order: a frame as a test and a change of one cell; two frames in either
 -- order; one exchange; exchanges.
+use Rattle.std.specs.Prelude.{Ok}
 use Prim.Native.Nat.{ℕ, ◌+◌, ◌-◌, ◌≤◌}
 use mathlib.Core.Path.{◌≡◌, refl, sym, ap, ◌∙◌, subst}
 use mathlib.Core.Bool.{Bool, true, false, cond, not, ◌&&◌, ◌||◌, false≢true}
@@ -17,12 +18,9 @@ use Rattle.frame.specs.declared.Action.{Action}
 use Rattle.frame.specs.declared.Action.TheVariants.{Acquire, Release, Read, Write, Begin, End}
 use Rattle.frame.specs.declared.Frame.{Frame}
 use Rattle.frame.specs.declared.Lock.{Lock}
-use Rattle.frame.specs.declared.Decoded.TheVariants as decoded
 use Rattle.frame.specs.declared.Refusal.TheVariants as refusal
 use Rattle.soundness.proofs.Laws.{check_short, sound_fits, sound_first, spared, Acquired, took, took_again, acquired, Released, freed, let_go, released}
 use Rattle.soundness.specs.Soundness.{State, state_of, owner_of, count_of, Checked, stepped, step_action, step_frame, check_from, check_reply, start}
-use Rattle.soundness.specs.declared.CheckReply.TheVariants as check
-use Rattle.soundness.specs.declared.Outcome.TheVariants as outcome
 use Rattle.soundness.specs.declared.Level.{Level}
 use Rattle.soundness.specs.declared.Level.TheVariants.{Outer, Inner}
 use Rattle.exchange.specs.Independent.{clash, independent}
@@ -69,7 +67,7 @@ does_release : (t : ℕ) (l : Lock) (s : State) {x : Level} {n : State} → Rele
 does_release t l s (freed e h) = (eq-eqb (owner_of l s) (t + 1) e, rw (le-leb (count_of l s) 1 h))
 does_release t l s (let_go e h) = (eq-eqb (owner_of l s) (t + 1) e, rw (lt-leb (count_of l s) 1 h, set-get_or s.owners l.0 0))
 
-does : {x : Level} (t : ℕ) (a : Action) (s n : State) → step_action t a s ≡ stepped (outcome.Next x) n → Does t a s n
+does : {x : Level} (t : ℕ) (a : Action) (s n : State) → step_action t a s ≡ stepped (Ok x) n → Does t a s n
 unfolding step_action
 does t (Acquire l) s n e = does_acquire t l s (acquired t l s e)
 does t (Release l) s n e = does_release t l s (released t l s e)
@@ -79,7 +77,7 @@ does t Begin s n e = let q = spared (leb deepest (get_or s.depths t 0)) refusal.
 does t End s n e = let q = spared (eqb (get_or s.depths t 0) 0) refusal.NoOpenBlock s _ n e in (rw q.0, q.1)
 
 abbrev Steps : ℕ → Action → State → Type 0
-Steps t a s = (x : Level) × (step_action t a s ≡ stepped (outcome.Next x) (change (cell_of t a) s))
+Steps t a s = (x : Level) × (step_action t a s ≡ stepped (Ok x) (change (cell_of t a) s))
 
 steps_acquire : (t : ℕ) (l : Lock) (s : State) (a b d : Bool) → eqb (owner_of l s) 0 ≡ a → eqb (owner_of l s) (t + 1) ≡ b → leb most_held (count_of l s) ≡ d
     → a || (b && not d) ≡ true → Steps t (Acquire l) s
@@ -183,17 +181,17 @@ record Turned (f g : Frame) (s k : State) : Type 0 where
   between : State
   early : Level
   late : Level
-  first : step_frame g s ≡ stepped (outcome.Next early) between
-  second : step_frame f between ≡ stepped (outcome.Next late) k
+  first : step_frame g s ≡ stepped (Ok early) between
+  second : step_frame f between ≡ stepped (Ok late) k
 
-turn : {x y : Level} (f g : Frame) (s n k : State) → independent f g ≡ true → step_frame f s ≡ stepped (outcome.Next x) n → step_frame g n ≡ stepped (outcome.Next y) k
+turn : {x y : Level} (f g : Frame) (s n k : State) → independent f g ≡ true → step_frame f s ≡ stepped (Ok x) n → step_frame g n ≡ stepped (Ok y) k
     → Turned f g s k
 turn f g s n k i a b = record {
   between = change q s;
   early = (steps u g.action s q_first).0;
   late = (steps t f.action (change q s) p_second).0;
   first = (steps u g.action s q_first).1;
-  second = (steps t f.action (change q s) p_second).1 ∙ ap (stepped (outcome.Next _)) (sym (changes p q s c) ∙ sym at_end);
+  second = (steps t f.action (change q s) p_second).1 ∙ ap (stepped (Ok _)) (sym (changes p q s c) ∙ sym at_end);
 }
   where
     t : ℕ
@@ -224,17 +222,17 @@ turn f g s n k i a b = record {
     p_second = test_kept q p s (back p q c) ∙ (does t f.action s n a).0
 
 -- the pass goes on behind a frame that steps
-pub goes_on : {x : Level} (i : ℕ) (s n : State) (w : ℕ) (ws : List ℕ) (f : Frame) → decode_word w ≡ decoded.Frame f → step_frame f s ≡ stepped (outcome.Next x) n
+pub goes_on : {x : Level} (i : ℕ) (s n : State) (w : ℕ) (ws : List ℕ) (f : Frame) → decode_word w ≡ Ok f → step_frame f s ≡ stepped (Ok x) n
     → check_from i s (w ∷ ws) ≡ check_from (i + 1) n ws
 unfolding check_from
 goes_on i s n w ws f d g = rw (d, g)
 
-independent_frames : (w v : ℕ) (f g : Frame) → decode_word w ≡ decoded.Frame f → decode_word v ≡ decoded.Frame g → independent_words w v ≡ true
+independent_frames : (w v : ℕ) (f g : Frame) → decode_word w ≡ Ok f → decode_word v ≡ Ok g → independent_words w v ≡ true
     → independent f g ≡ true
 independent_frames w v f g d e i = rw (d, e) at i
 
 -- one exchange
-exchange_check : {l r : List ℕ} → Exchange independent_words l r → (i : ℕ) (s : State) → (check_from i s l).reply ≡ check.Sound
+exchange_check : {l r : List ℕ} → Exchange independent_words l r → (i : ℕ) (s : State) → (check_from i s l).reply ≡ (Ok tt)
     → check_from i s l ≡ check_from i s r
 exchange_check (here {f = w} {g = v} {l = l} x) i s e =
     let a = sound_first i s w (v ∷ l) e in
@@ -250,19 +248,19 @@ exchange_check (later {f = w} {l = l} {r = r} x) i s e =
     ∙ (exchange_check x (i + 1) a.next a.rest ∙ sym (goes_on i s a.next w r a.frame a.is a.passes))
 
 -- exchanges change neither the reply nor the state that the pass leaves
-exchanges_check : {l r : List ℕ} → Exchanges independent_words l r → (i : ℕ) (s : State) → (check_from i s l).reply ≡ check.Sound
+exchanges_check : {l r : List ℕ} → Exchanges independent_words l r → (i : ℕ) (s : State) → (check_from i s l).reply ≡ (Ok tt)
     → check_from i s l ≡ check_from i s r
 exchanges_check done i s e = refl
 exchanges_check (step x y) i s e =
     let q = exchange_check x i s e in
     q ∙ exchanges_check y i s (ap (λ (c : Checked). c.reply) (sym q) ∙ e)
 
-module _ {l r : List ℕ} (x : Exchanges independent_words l r) (e : check_reply l ≡ check.Sound) where
+module _ {l r : List ℕ} (x : Exchanges independent_words l r) (e : check_reply l ≡ (Ok tt)) where
   from_start : check_from 0 start l ≡ check_from 0 start r
   from_start = exchanges_check x 0 start (sym (check_short l (sound_fits l e)) ∙ e)
 
   -- What exchanges make of a sound recording is sound.
-  pub exchanges_sound : check_reply r ≡ check.Sound
+  pub exchanges_sound : check_reply r ≡ (Ok tt)
   exchanges_sound =
       check_short r (subst (λ n. n ≤ most_frames) (exchanges_length independent_words x) (sound_fits l e))
       ∙ (ap (λ (c : Checked). c.reply) (sym from_start) ∙ (sym (check_short l (sound_fits l e)) ∙ e))

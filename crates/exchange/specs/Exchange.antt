@@ -1,12 +1,11 @@
 -- Lists that some number of exchanges of independent neighbours turn one into the other, and which words of a recording are independent.
 -- Quotes are from docs/FORMAT.md.
-use Rattle.std.specs.Prelude.{ℕ, ◌≡◌, Bool, true, false, List, ◌∷◌, map}
+use Rattle.std.specs.Prelude.{ℕ, ◌≡◌, Bool, true, false, List, ◌∷◌, map, Result, Ok, Err}
 use Rattle.frame.specs.Frame.{decode_word}
 use Rattle.frame.specs.declared.Action.TheVariants.{Begin}
 use Rattle.frame.specs.declared.Frame.{Frame}
-use Rattle.frame.specs.declared.Decoded.{Decoded}
-use Rattle.frame.specs.declared.Decoded.TheVariants as decoded
 use Rattle.exchange.specs.Independent.{independent}
+use Rattle.frame.specs.declared.Refusal.{Refusal}
 
 -- Over any elements, and any test of which are independent.
 module _ {A : Type 0} (independent : A → A → Bool) where
@@ -22,18 +21,18 @@ module _ {A : Type 0} (independent : A → A → Bool) where
     step : {l m r : List A} → Exchange l m → Exchanges m r → Exchanges l r
 
 -- Two words of a recording are independent if both are frames, and these are. A word that is no frame is exchanged with none.
-abbrev pub independent_in : Decoded → Decoded → Bool
-independent_in (decoded.Frame f) (decoded.Frame g) = independent f g
-independent_in (decoded.Frame f) (decoded.Bad r) = false
-independent_in (decoded.Bad r) d = false
+abbrev pub independent_in : Result Frame Refusal → Result Frame Refusal → Bool
+independent_in (Ok f) (Ok g) = independent f g
+independent_in (Ok f) (Err r) = false
+independent_in (Err r) d = false
 
 abbrev pub independent_words : ℕ → ℕ → Bool
 independent_words w v = independent_in (decode_word w) (decode_word v)
 
 -- The frame of a word, for laws of words that decode; what does not is taken for a frame that touches nothing. No claim speaks of it.
-abbrev pub frame_in : Decoded → Frame
-frame_in (decoded.Frame f) = f
-frame_in (decoded.Bad r) = record { thread = record { 0 = 0 }; action = Begin }
+abbrev pub frame_in : Result Frame Refusal → Frame
+frame_in (Ok f) = f
+frame_in (Err r) = record { thread = record { 0 = 0 }; action = Begin }
 
 abbrev pub frame_of : ℕ → Frame
 frame_of w = frame_in (decode_word w)

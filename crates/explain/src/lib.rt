@@ -6,9 +6,8 @@ ghost use Rattle.std.specs.Prelude.{◌≡◌, length};
 ghost use Rattle.output.specs.Output.{behind, written};
 ghost use Rattle.explain.specs.Explain.{explanation};
 
-use frame::Refused;
 use phrase::Source;
-use reply::{Reply, Verdict};
+use reply::Reply;
 use sentence::say;
 
 // The answer to a recording of so many frames, in words.
@@ -24,9 +23,9 @@ pub fn explain(
     ensures contents { out.new ≡ written out.old at (explanation source words.now r frames) }
 {
     match r {
-        Reply::Refused(x) => refusaltext::explain_refusal(out, at, source, words, x),
-        Reply::Judged(v) => match v {
-            Verdict::Reducible => {
+        Err(x) => refusaltext::explain_refusal(out, at, source, words, x),
+        Ok(v) => match v {
+            Ok(()) => {
                 let f = facts::place_facts(source, words, frames);
                 if frames == 0 {
                     return say(
@@ -38,7 +37,7 @@ pub fn explain(
                 }
                 say(out, at, b"reducible: no frame goes wrong; frames: #.\n", f)
             }
-            Verdict::Violated(w) => {
+            Err(w) => {
                 let f = facts::violation_facts(source, words, w);
                 violationtext::say_violation(out, at, f, w)
             }

@@ -4,35 +4,26 @@
 
 ghost use Rattle.std.specs.Prelude.{◌≡◌, get_or};
 ghost use Rattle.frame.specs.Frame.{decode_word};
-ghost use Rattle.facts.specs.Facts.{place_of, thread_in, place_facts, violation_facts};
+ghost use Rattle.facts.specs.Facts.{thread_in, place_facts, violation_facts};
 
-use frame::{Decoded, Refusal, Thread};
+use frame::{Frame, Refusal, Thread};
 use phrase::Source;
-use reply::{Mark, Violation};
+use reply::Violation;
 use sentence::Facts;
 
 // The frame at a place. Outside the recording it is that of the word 0, which is no frame.
-fn frame_at(words: &[u32], place: u32) -> Decoded
+fn frame_at(words: &[u32], place: u32) -> Result<Frame, Refusal>
     ensures { result ≡ decode_word (get_or words.now place 0) }
 {
-    frame::decode(words.get(place as usize).copied().unwrap_or(0))
+    Frame::try_from(words.get(place as usize).copied().unwrap_or(0))
 }
 
-fn thread_of(decoded: Decoded) -> Thread
+fn thread_of(decoded: Result<Frame, Refusal>) -> Thread
     ensures { result ≡ thread_in decoded }
 {
     match decoded {
-        Decoded::Frame(frame) => frame.thread,
-        Decoded::Bad(_) => Thread(0),
-    }
-}
-
-fn place_of(m: Mark) -> u32
-    ensures { result ≡ place_of m }
-{
-    match m {
-        Mark::At(i) => i,
-        Mark::Absent => 0,
+        Ok(frame) => frame.thread,
+        Err(_) => Thread(0),
     }
 }
 
@@ -48,7 +39,7 @@ pub fn place_facts(source: Source, words: &[u32], place: u32) -> Facts
         thread: thread_of(frame),
         begin: 0,
         commit: 0,
-        by: Decoded::Bad(Refusal::Operation),
+        by: Err(Refusal::Operation),
         locks: 0,
     }
 }
@@ -57,13 +48,13 @@ pub fn place_facts(source: Source, words: &[u32], place: u32) -> Facts
 pub fn violation_facts(source: Source, words: &[u32], violation: Violation) -> Facts
     ensures { result ≡ violation_facts source words.now violation }
 {
-    let commit = place_of(violation.commit);
+    let commit = violation.commit.unwrap_or(0);
     Facts {
         source,
         place: violation.frame,
         frame: frame_at(words, violation.frame),
         thread: violation.thread,
-        begin: place_of(violation.begin),
+        begin: violation.begin.unwrap_or(0),
         commit,
         by: frame_at(words, commit),
         locks: violation.locks,

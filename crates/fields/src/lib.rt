@@ -11,28 +11,8 @@ use digits::{digit_list, join};
 use frame::{Refusal, Refused};
 use line::{
     BEGIN_AT, COMMIT_AT, FRAME_AT, Fields, KIND_WIDTH, LINE, LINE_END, LOCKS_AT, LOCKS_WIDTH,
-    LineMark, PLACE_WIDTH, Place, THREAD_AT, THREAD_WIDTH,
+    PLACE_WIDTH, Place, THREAD_AT, THREAD_WIDTH,
 };
-
-// The fields of a line, or why it is none.
-#[derive(Clone, Copy)]
-pub enum FieldsReply {
-    Read(Fields),
-    Refused(Refused),
-}
-
-#[derive(Clone, Copy)]
-pub enum LineReply {
-    Written,
-    Refused(Refused),
-}
-
-// The line of some fields. Where they are refused its bytes are zeros.
-#[derive(Clone, Copy)]
-pub struct LineWritten {
-    pub reply: LineReply,
-    pub line: [u8; LINE],
-}
 
 // Whether a line may have a kind.
 fn is_kind(k: u8) -> bool
@@ -55,17 +35,24 @@ fn no_line() -> Refused
 }
 
 // What the number of a begin or a commit says.
-pub fn field_mark(v: Place) -> LineMark
+pub fn field_mark(v: Place) -> Option<Place>
     ensures { result ≡ field_mark place_width v }
 {
     if v == line::ABSENT {
-        return LineMark::Absent;
+        return None;
     }
-    LineMark::At(v)
+    Some(v)
 }
 
 // The fields with these numbers.
-fn fields_of(kind: u64, frame: u64, thread: u64, begin: u64, commit: u64, locks: u64) -> FieldsReply
+fn fields_of(
+    kind: u64,
+    frame: u64,
+    thread: u64,
+    begin: u64,
+    commit: u64,
+    locks: u64,
+) -> Result<Fields, Refused>
     requires fact_1 { kind < too_wide kind_width }
     requires fact_2 { frame < too_wide place_width }
     requires fact_3 { thread < too_wide thread_width }
@@ -74,7 +61,7 @@ fn fields_of(kind: u64, frame: u64, thread: u64, begin: u64, commit: u64, locks:
     ensures { result ≡ fields_of kind frame thread begin commit locks }
 {
     if is_kind(kind as u8) {
-        return FieldsReply::Read(Fields {
+        return Ok(Fields {
             kind: kind as u8,
             frame: frame as Place,
             thread: thread as u8,
@@ -83,23 +70,23 @@ fn fields_of(kind: u64, frame: u64, thread: u64, begin: u64, commit: u64, locks:
             locks: locks,
         });
     }
-    FieldsReply::Refused(no_line())
+    Err(no_line())
 }
 
 // The fields of a verdict line.
-pub fn read_fields(line: &[u8]) -> FieldsReply
+pub fn read_fields(line: &[u8]) -> Result<Fields, Refused>
     ensures { result ≡ line_fields line.now }
 {
     if line.len() != LINE {
-        return FieldsReply::Refused(no_line());
+        return Err(no_line());
     }
     if line[LINE_END] != 10 {
-        return FieldsReply::Refused(no_line());
+        return Err(no_line());
     }
     let mut d = [0u8; LINE_END];
     let others = digit_list(line, &mut d);
     if 0 < others {
-        return FieldsReply::Refused(no_line());
+        return Err(no_line());
     }
     let kind = join(&d, 0, KIND_WIDTH);
     let frame = join(&d, FRAME_AT, PLACE_WIDTH);
@@ -110,19 +97,12 @@ pub fn read_fields(line: &[u8]) -> FieldsReply
     fields_of(kind, frame, thread, begin, commit, locks)
 }
 
-// The line of some fields.
-pub fn write_fields(f: Fields) -> LineWritten
+// The line of some fields, or why it is none.
+pub fn write_fields(f: Fields) -> Result<[u8; LINE], Refused>
     ensures { result ≡ written_line f }
 {
     if is_kind(f.kind) {
-        let l = line::fields_line(f);
-        return LineWritten {
-            reply: LineReply::Written,
-            line: l,
-        };
+        return Ok(line::fields_line(f));
     }
-    LineWritten {
-        reply: LineReply::Refused(no_line()),
-        line: [0; LINE],
-    }
+    Err(no_line())
 }

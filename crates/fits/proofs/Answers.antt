@@ -1,4 +1,5 @@
 -- How long an answer in words can be: the weight of each sentence, computed, and their sum.
+use Rattle.std.specs.Prelude.{Result, Ok, Err, Option, Some, None}
 use Prim.Native.Nat.{ℕ, ◌+◌, ◌*◌, ◌/◌, ◌%◌}
 use Prim.Native.String.{String}
 use mathlib.Core.Path.{◌≡◌, refl}
@@ -13,12 +14,8 @@ use Rattle.frame.specs.declared.Refusal.TheVariants as refusal
 use Rattle.frame.specs.declared.Refused.{Refused}
 use Rattle.reply.specs.declared.Kind.{Kind}
 use Rattle.reply.specs.declared.Kind.TheVariants as kind
-use Rattle.reply.specs.declared.Mark.{Mark}
-use Rattle.reply.specs.declared.Mark.TheVariants as mark
 use Rattle.reply.specs.declared.Violation.{Violation}
-use Rattle.reply.specs.declared.Verdict.TheVariants as verdict
-use Rattle.reply.specs.declared.Reply.{Reply}
-use Rattle.reply.specs.declared.Reply.TheVariants as reply
+use Rattle.reply.specs.Reply.{Reply}
 use Rattle.digits.specs.Digits.{digits}
 use Rattle.digits.proofs.Writing.{length_digits}
 use Rattle.output.specs.Output.{bytes}
@@ -35,16 +32,13 @@ use Rattle.facts.specs.Facts.{place_facts, violation_facts}
 use Rattle.linefault.specs.LineFault.{line_fault, fault_sentence, column_text, fault_from, line_fault_text, refused_text}
 use Rattle.fault.specs.Fault.{leading, fault_of}
 use Rattle.fields.specs.Fields.{line_fields}
-use Rattle.fields.specs.declared.FieldsReply.{FieldsReply}
-use Rattle.fields.specs.declared.FieldsReply.TheVariants as fields
 use Rattle.kept.specs.Kept.{refusals, refusal_by, kept_reply}
-use Rattle.kept.specs.declared.Kept.{Kept}
-use Rattle.kept.specs.declared.Kept.TheVariants as kept
 use Rattle.linereport.specs.LineReport.{source_of, other_text, kept_text, line_read}
 use Rattle.refusalreport.specs.RefusalReport.{source_named, numbered_text}
 use Rattle.fits.specs.Fits.{most_text, TextsFit}
 use Rattle.fault.specs.declared.Fault.{Fault}
 use Rattle.fault.specs.declared.Fault.TheVariants as fault
+use Rattle.line.specs.declared.Fields.{Fields}
 
 -- a sentence that comes to n bytes at most
 abbrev Short : ℕ → String → Type 0
@@ -89,12 +83,12 @@ kind_short kind.UnprotectedAfterCommit = refl
 kind_short kind.AcquireAfterCommit = refl
 kind_short kind.SetEmptied = refl
 
-block_short : (b c : Mark) (k : Bool) → Short 256 (block_sentence b c k)
+block_short : (b c : Option ℕ) (k : Bool) → Short 256 (block_sentence b c k)
 unfolding bytes piece_weight weight
-block_short mark.Absent c k = refl
-block_short (mark.At b) mark.Absent k = refl
-block_short (mark.At b) (mark.At c) true = refl
-block_short (mark.At b) (mark.At c) false = refl
+block_short None c k = refl
+block_short (Some b) None k = refl
+block_short (Some b) (Some c) true = refl
+block_short (Some b) (Some c) false = refl
 
 frame_short : (k : Bool) → Short 256 (frame_sentence k)
 unfolding bytes piece_weight weight
@@ -140,9 +134,9 @@ violation_within f v =
     (joined (said f (why_sentence v.kind k) (why_short v.kind k)) (said f (remedy_sentence v.kind) (remedy_short v.kind)))))
 
 explanation_within : (s : Source) (ws : List ℕ) (r : Reply) (n : ℕ) → Within most_text (explanation s ws r n)
-explanation_within s ws (reply.Refused x) n = wider (refusal_within s ws x) (omega arith)
-explanation_within s ws (reply.Judged verdict.Reducible) n = wider (said (place_facts s ws n) (reducible_sentence n) (reducible_short n)) (omega arith)
-explanation_within s ws (reply.Judged (verdict.Violated v)) n = violation_within (violation_facts s ws v) v
+explanation_within s ws (Err x) n = wider (refusal_within s ws x) (omega arith)
+explanation_within s ws (Ok (Ok tt)) n = wider (said (place_facts s ws n) (reducible_sentence n) (reducible_short n)) (omega arith)
+explanation_within s ws (Ok (Err v)) n = violation_within (violation_facts s ws v) v
 
 line_short : Short 512 line_fault
 unfolding bytes piece_weight weight
@@ -194,13 +188,13 @@ other_within n p =
     (joined (decimal_within n) (joined (plain ", which this check does not give; its place is ") (joined (decimal_within p) (plain ".\n")))))
     (omega arith)
 
-kept_within : (k : Kept) (ws : List ℕ) (p : ℕ) → Within most_text (kept_text k ws p)
-kept_within (kept.Reply r) ws p = explanation_within (source_of r) ws r p
-kept_within (kept.Other n) ws p = wider (other_within n p) (omega arith)
+kept_within : (k : Result Reply ℕ) (ws : List ℕ) (p : ℕ) → Within most_text (kept_text k ws p)
+kept_within (Ok r) ws p = explanation_within (source_of r) ws r p
+kept_within (Err n) ws p = wider (other_within n p) (omega arith)
 
-read_within : (q : FieldsReply) (ws : List ℕ) → Within most_text (line_read q ws)
-read_within (fields.Read f) ws = kept_within (kept_reply f) ws f.frame
-read_within (fields.Refused x) ws = wider (refusal_within source.Text ws x) (omega arith)
+read_within : (q : Result Fields Refused) (ws : List ℕ) → Within most_text (line_read q ws)
+read_within (Ok f) ws = kept_within (kept_reply f) ws f.frame
+read_within (Err x) ws = wider (refusal_within source.Text ws x) (omega arith)
 
 numbered_within : (n p : ℕ) (s : Source) (t ws : List ℕ) → Within most_text (numbered_text n p s t ws)
 numbered_within n p s t ws = go (eqb n 0) (ltb (length refusals) n)

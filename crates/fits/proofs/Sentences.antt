@@ -1,4 +1,5 @@
 -- How long a sentence can become when its slots are filled in.
+use Rattle.std.specs.Prelude.{Result, Ok, Err}
 use Prim.Native.Nat.{ℕ, ◌+◌}
 use Prim.Native.Char.{code}
 use mathlib.Core.Path.{◌≡◌}
@@ -9,8 +10,6 @@ use borrow.Author.Tests.{leb-true}
 use lib.Dec.{eqb, leb}
 use Rattle.frame.specs.declared.Action.{Action}
 use Rattle.frame.specs.declared.Action.TheVariants as action
-use Rattle.frame.specs.declared.Decoded.{Decoded}
-use Rattle.frame.specs.declared.Decoded.TheVariants as decoded
 use Rattle.output.specs.Output.{bytes}
 use Rattle.fits.proofs.Texts.{Within, wider, plain, joined, decimal_within, locks_within}
 use Rattle.sentence.specs.Sentence.{piece, filled}
@@ -18,6 +17,8 @@ use Rattle.phrase.specs.Phrase.{source_text, line_text, action_text, decoded_tex
 use Rattle.phrase.specs.declared.Source.{Source}
 use Rattle.phrase.specs.declared.Source.TheVariants as source
 use Rattle.sentence.specs.declared.Facts.{Facts}
+use Rattle.frame.specs.declared.Refusal.{Refusal}
+use Rattle.frame.specs.declared.Frame.{Frame}
 
 source_within : (s : Source) → Within 19 (source_text s)
 unfolding source_text bytes
@@ -40,10 +41,10 @@ action_within (action.Write v) = joined (plain "write of variable ") (decimal_wi
 action_within action.Begin = wider (plain "begin") (omega arith)
 action_within action.End = wider (plain "end") (omega arith)
 
-decoded_within : (d : Decoded) → Within 38 (decoded_text d)
+decoded_within : (d : Result Frame Refusal) → Within 38 (decoded_text d)
 unfolding decoded_text bytes
-decoded_within (decoded.Frame f) = action_within f.action
-decoded_within (decoded.Bad r) = wider (plain "no frame") (omega arith)
+decoded_within (Ok f) = action_within f.action
+decoded_within (Err r) = wider (plain "no frame") (omega arith)
 
 -- The most bytes that a byte of a sentence stands for, by the cases of `piece`.
 unfoldable pub piece_weight : ℕ → ℕ

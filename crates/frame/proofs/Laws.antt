@@ -1,4 +1,5 @@
 -- Laws of decoding: what is decoded is in its ranges, decoding and encoding undo each other, and the parts of a word are those of its frame.
+use Rattle.std.specs.Prelude.{Ok, Err, Some, None, Result}
 use Prim.Native.Nat.{ℕ, zero, suc, ◌/◌, ◌%◌, ◌<◌, ◌≤◌}
 use mathlib.Core.Path.{◌≡◌, refl, ap, ◌∙◌, subst}
 use mathlib.Core.Bool.{Bool, true, false}
@@ -14,9 +15,7 @@ use Rattle.frame.specs.declared.Frame.{Frame}
 use Rattle.frame.specs.declared.Action.{Action}
 use Rattle.frame.specs.declared.Action.TheVariants.{Acquire, Release, Read, Write, Begin, End}
 use Rattle.frame.specs.declared.Refusal.TheVariants as refusal
-use Rattle.frame.specs.declared.Decoded.TheVariants as decoded
 use Rattle.frame.specs.declared.Parts.{Parts}
-use Rattle.frame.specs.declared.Split.TheVariants as split
 
 -- what a decoded frame shows of the parts of its word
 pub record Shown (op t o : ℕ) (f : Frame) : Type 0 where
@@ -26,18 +25,18 @@ pub record Shown (op t o : ℕ) (f : Frame) : Type 0 where
   pub object : object_fits op o ≡ true
   pub frame : f ≡ record { thread = record { 0 = t }; action = action_of op o }
 
-same_frame : (f g : Frame) → decoded.Frame f ≡ decoded.Frame g → g ≡ f
+same_frame : (f g : Frame) → ◌≡◌ {A = Result Frame Refusal} (Ok f) (Ok g) → g ≡ f
 same_frame f g e = cc
 
-pub shown : (op t o : ℕ) (f : Frame) → decode_parts op t o ≡ decoded.Frame f → Shown op t o f
+pub shown : (op t o : ℕ) (f : Frame) → decode_parts op t o ≡ Ok f → Shown op t o f
 unfolding decode_parts
 shown op t o f e = go (ltb op 1) refl (ltb 6 op) refl (leb thread_count t) refl (object_fits op o) refl
   where
     go : (a : Bool) → ltb op 1 ≡ a → (b : Bool) → ltb 6 op ≡ b → (d : Bool) → leb thread_count t ≡ d → (g : Bool) → object_fits op o ≡ g → Shown op t o f
-    go true p b q d r g u = let z : decoded.Bad refusal.Operation ≡ decoded.Frame f = rw p at e in never (cc)
-    go false p true q d r g u = let z : decoded.Bad refusal.Operation ≡ decoded.Frame f = rw (p, q) at e in never (cc)
-    go false p false q true r g u = let z : decoded.Bad refusal.Thread ≡ decoded.Frame f = rw (p, q, r) at e in never (cc)
-    go false p false q false r false u = let z : decoded.Bad refusal.Object ≡ decoded.Frame f = rw (p, q, r, u) at e in never (cc)
+    go true p b q d r g u = let z : ◌≡◌ {A = Result Frame Refusal} (Err refusal.Operation) (Ok f) = rw p at e in never (cc)
+    go false p true q d r g u = let z : ◌≡◌ {A = Result Frame Refusal} (Err refusal.Operation) (Ok f) = rw (p, q) at e in never (cc)
+    go false p false q true r g u = let z : ◌≡◌ {A = Result Frame Refusal} (Err refusal.Thread) (Ok f) = rw (p, q, r) at e in never (cc)
+    go false p false q false r false u = let z : ◌≡◌ {A = Result Frame Refusal} (Err refusal.Object) (Ok f) = rw (p, q, r, u) at e in never (cc)
     go false p false q false r true u = record {
       low = ltb-false op 1 p;
       high = ltb-false 6 op q;
@@ -74,7 +73,7 @@ object_fits_lem begin o e = tt
 object_fits_lem end o e = tt
 
 -- what is decoded is in its ranges
-pub decoded_in_range : (w : ℕ) (f : Frame) → decode_word w ≡ decoded.Frame f → InRange f
+pub decoded_in_range : (w : ℕ) (f : Frame) → decode_word w ≡ Ok f → InRange f
 decoded_in_range w f e =
     let s = shown (w / 16777216) (w / 65536 % 256) (w % 65536) f e in
     let p : InRange (record { thread = record { 0 = w / 65536 % 256 }; action = action_of (w / 16777216) (w % 65536) }) = record {
@@ -91,18 +90,18 @@ pub record Apart (op t o : ℕ) (p : Parts) : Type 0 where
   pub object : p.object < variable_count
   pub whole : decode_parts op t o ≡ decode_parts p.operation p.thread.0 p.object
 
-same_parts : (p q : Parts) → split.Parts p ≡ split.Parts q → p ≡ q
+same_parts : (p q : Parts) → Some p ≡ Some q → p ≡ q
 same_parts p q e = cc
 
-pub apart : (op t o : ℕ) (p : Parts) → split_parts op t o ≡ split.Parts p → Apart op t o p
+pub apart : (op t o : ℕ) (p : Parts) → split_parts op t o ≡ Some p → Apart op t o p
 unfolding split_parts
 apart op t o p e = go (ltb op 1) refl (leb 7 op) refl (leb thread_count t) refl (leb variable_count o) refl
   where
     go : (a : Bool) → ltb op 1 ≡ a → (b : Bool) → leb 7 op ≡ b → (d : Bool) → leb thread_count t ≡ d → (g : Bool) → leb variable_count o ≡ g → Apart op t o p
-    go true x b y d z g u = let v : split.Bad ≡ split.Parts p = rw x at e in never (cc)
-    go false x true y d z g u = let v : split.Bad ≡ split.Parts p = rw (x, y) at e in never (cc)
-    go false x false y true z g u = let v : split.Bad ≡ split.Parts p = rw (x, y, z) at e in never (cc)
-    go false x false y false z true u = let v : split.Bad ≡ split.Parts p = rw (x, y, z, u) at e in never (cc)
+    go true x b y d z g u = let v : None ≡ Some p = rw x at e in never (cc)
+    go false x true y d z g u = let v : None ≡ Some p = rw (x, y) at e in never (cc)
+    go false x false y true z g u = let v : None ≡ Some p = rw (x, y, z) at e in never (cc)
+    go false x false y false z true u = let v : None ≡ Some p = rw (x, y, z, u) at e in never (cc)
     go false x false y false z false u =
         let v : Apart op t o (record { operation = op; thread = record { 0 = t }; object = o }) = record {
           low = ltb-false op 1 x;
@@ -122,7 +121,7 @@ encoded begin t o e = rw (eqb-true o 0 e)
 encoded end t o e = rw (eqb-true o 0 e)
 
 -- encoding what was decoded gives the word
-pub encode_decode : (w : ℕ) (f : Frame) → decode_word w ≡ decoded.Frame f → encode_frame f ≡ w
+pub encode_decode : (w : ℕ) (f : Frame) → decode_word w ≡ Ok f → encode_frame f ≡ w
 encode_decode w f e =
     let s = shown (w / 16777216) (w / 65536 % 256) (w % 65536) f e in
     ap encode_frame s.frame
@@ -136,7 +135,7 @@ parts op t o h l =
     let d : word_of op t o % 65536 ≡ o = omega arith in
     rw (a, b, d)
 
-decode_parts_lem : (t : ℕ) (a : Action) → t < thread_count → ObjectInRange a → decode_word (encode_parts t a) ≡ decoded.Frame (record { thread = record { 0 = t }; action = a })
+decode_parts_lem : (t : ℕ) (a : Action) → t < thread_count → ObjectInRange a → decode_word (encode_parts t a) ≡ Ok (record { thread = record { 0 = t }; action = a })
 unfolding decode_parts
 decode_parts_lem t (Acquire l) h g = parts 1 t l.0 h (omega arith) ∙ simp (lt-leb thread_count t h, lt-ltb l.0 lock_count g)
 decode_parts_lem t (Release l) h g = parts 2 t l.0 h (omega arith) ∙ simp (lt-leb thread_count t h, lt-ltb l.0 lock_count g)
@@ -146,7 +145,7 @@ decode_parts_lem t Begin h g = parts 5 t 0 h (omega arith) ∙ simp (lt-leb thre
 decode_parts_lem t End h g = parts 6 t 0 h (omega arith) ∙ simp (lt-leb thread_count t h)
 
 -- decoding what was encoded gives the frame
-pub decode_encode : (f : Frame) → InRange f → decode_word (encode_frame f) ≡ decoded.Frame f
+pub decode_encode : (f : Frame) → InRange f → decode_word (encode_frame f) ≡ Ok f
 decode_encode f g = decode_parts_lem f.thread.0 f.action g.thread g.object
 
 -- Every refusal's number is at most 21.

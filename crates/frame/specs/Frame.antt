@@ -1,17 +1,14 @@
 -- What a 32-bit word means as a frame, and the word of a frame.
 -- "A frame is a 32-bit word: operation in the top 8 bits, thread in the next 8, object in the low 16."
 -- Quotes are from docs/FORMAT.md.
-use Rattle.std.specs.Prelude.{ℕ, ◌+◌, ◌*◌, ◌/◌, ◌%◌, ◌<◌, Bool, cond, ltb, leb, eqb}
+use Rattle.std.specs.Prelude.{ℕ, ◌+◌, ◌*◌, ◌/◌, ◌%◌, ◌<◌, Bool, cond, ltb, leb, eqb, Result, Ok, Err, Option, Some, None}
 use Rattle.frame.specs.Limits.{thread_count, lock_count, variable_count}
 use Rattle.frame.specs.declared.Frame.{Frame}
 use Rattle.frame.specs.declared.Action.{Action}
 use Rattle.frame.specs.declared.Action.TheVariants.{Acquire, Release, Read, Write, Begin, End}
 use Rattle.frame.specs.declared.Refusal.{Refusal}
 use Rattle.frame.specs.declared.Refusal.TheVariants as refusal
-use Rattle.frame.specs.declared.Decoded.{Decoded}
-use Rattle.frame.specs.declared.Decoded.TheVariants as decoded
-use Rattle.frame.specs.declared.Split.{Split}
-use Rattle.frame.specs.declared.Split.TheVariants as split
+use Rattle.frame.specs.declared.Parts.{Parts}
 
 -- The table's objects: "lock 0 to 63" for the operations 1 and 2, "variable 0 to 1023" for 3 and 4, "0" for 5 and 6.
 abbrev pub object_fits : ℕ → ℕ → Bool
@@ -27,33 +24,28 @@ action_of op o =
     (cond (eqb op 5) Begin End))))
 
 -- "4: operation not 1 to 6 .. 5: thread above 31 .. 6: object outside the table of operations .. the lowest number wins"
-unfoldable pub decode_parts : ℕ → ℕ → ℕ → Decoded
+unfoldable pub decode_parts : ℕ → ℕ → ℕ → Result Frame Refusal
 decode_parts op t o =
-    cond (ltb op 1) (decoded.Bad refusal.Operation)
-    (cond (ltb 6 op) (decoded.Bad refusal.Operation)
-    (cond (leb thread_count t) (decoded.Bad refusal.Thread)
-    (cond (object_fits op o) (decoded.Frame (record { thread = record { 0 = t }; action = action_of op o }))
-    (decoded.Bad refusal.Object))))
+    cond (ltb op 1) (Err refusal.Operation)
+    (cond (ltb 6 op) (Err refusal.Operation)
+    (cond (leb thread_count t) (Err refusal.Thread)
+    (cond (object_fits op o) (Ok (record { thread = record { 0 = t }; action = action_of op o }))
+    (Err refusal.Object))))
 
-abbrev pub decode_word : ℕ → Decoded
+abbrev pub decode_word : ℕ → Result Frame Refusal
 decode_word w = decode_parts (w / 16777216) (w / 65536 % 256) (w % 65536)
 
 -- The parts as numbers: "operation not 1 to 6", "thread above 31" and objects above all of the table are bad. Whether an object fits its
 -- operation is left open.
-unfoldable pub split_parts : ℕ → ℕ → ℕ → Split
+unfoldable pub split_parts : ℕ → ℕ → ℕ → Option Parts
 split_parts op t o =
-    cond (ltb op 1) split.Bad
-    (cond (leb 7 op) split.Bad
-    (cond (leb thread_count t) split.Bad
-    (cond (leb variable_count o) split.Bad (split.Parts (record { operation = op; thread = record { 0 = t }; object = o })))))
+    cond (ltb op 1) None
+    (cond (leb 7 op) None
+    (cond (leb thread_count t) None
+    (cond (leb variable_count o) None (Some (record { operation = op; thread = record { 0 = t }; object = o })))))
 
-abbrev pub split_word : ℕ → Split
+abbrev pub split_word : ℕ → Option Parts
 split_word w = split_parts (w / 16777216) (w / 65536 % 256) (w % 65536)
-
--- The refusal of a word that does not decode (asked of no other).
-abbrev pub refusal_of : Decoded → Refusal
-refusal_of (decoded.Frame f) = refusal.Operation
-refusal_of (decoded.Bad r) = r
 
 -- The word with these three parts.
 abbrev pub word_of : ℕ → ℕ → ℕ → ℕ

@@ -3,9 +3,9 @@
 
 #![tactic(auto)]
 
-ghost use Rattle.std.specs.Prelude.{◌≡◌};
-ghost use Rattle.frame.specs.Frame.{decode_word, split_word, encode_frame, word_of, refusal_of};
-ghost use Rattle.frame.specs.Refusal.{refusal_number};
+ghost use Rattle.std.specs.Prelude.{◌≡◌, true};
+ghost use Rattle.frame.specs.Frame.{object_fits, action_of, decode_word, split_word, encode_frame, word_of};
+ghost use Rattle.frame.specs.Refusal.{refusal_number, refused_at, refusal_named};
 
 // The limits of a recording: its threads, locks, variables and frames, the blocks that a thread may have open, and how often it may hold a
 // lock.
@@ -63,42 +63,40 @@ pub struct Frame {
     pub action: Action,
 }
 
-// Why something is refused. `refusal_number` of specs/ has the number of each.
-#[derive(Clone, Copy)]
+// Why something is refused, with its number.
+#[derive(Clone, Copy, PartialEq, Eq)]
 pub enum Refusal {
-    Line,
-    TooLong,
-    WordBuffer,
-    Operation,
-    Thread,
-    Object,
-    LockTaken,
-    LockNotHeld,
-    TooDeep,
-    NoOpenBlock,
-    GuardRange,
-    GuardRepeated,
-    Irreducible,
-    OpenBlock,
-    OutputBuffer,
-    SetTable,
-    LineBuffer,
-    VerdictLine,
-    TextBuffer,
-    TooOften,
-    MovesBuffer,
+    Line = 1,
+    TooLong = 2,
+    WordBuffer = 3,
+    Operation = 4,
+    Thread = 5,
+    Object = 6,
+    LockTaken = 7,
+    LockNotHeld = 8,
+    TooDeep = 9,
+    NoOpenBlock = 10,
+    GuardRange = 11,
+    GuardRepeated = 12,
+    Irreducible = 13,
+    OpenBlock = 14,
+    OutputBuffer = 15,
+    SetTable = 16,
+    LineBuffer = 17,
+    VerdictLine = 18,
+    TextBuffer = 19,
+    TooOften = 20,
+    MovesBuffer = 21,
 }
+
+// A number that no refusal has.
+#[derive(Clone, Copy)]
+pub struct UnknownRefusal(pub u8);
 
 #[derive(Clone, Copy)]
 pub struct Refused {
     pub reason: Refusal,
     pub place: u32,
-}
-
-#[derive(Clone, Copy)]
-pub enum Decoded {
-    Frame(Frame),
-    Bad(Refusal),
 }
 
 // The three parts of a word: an operation 1 to 6, a thread, and an object that is below the number of variables.
@@ -109,157 +107,150 @@ pub struct Parts {
     pub object: u16,
 }
 
-// Bad where a part is outside its range. No frame is.
-#[derive(Clone, Copy)]
-pub enum Split {
-    Parts(Parts),
-    Bad,
-}
-
-pub fn decode(word: u32) -> Decoded
-    ensures { result ≡ decode_word word }
-{
-    let op = word / 16777216;
-    let thread = word / 65536 % 256;
-    let object = word % 65536;
-    if op < 1 {
-        return Decoded::Bad(Refusal::Operation);
-    }
-    if 6 < op {
-        return Decoded::Bad(Refusal::Operation);
-    }
-    if THREAD_END <= thread {
-        return Decoded::Bad(Refusal::Thread);
-    }
-    let t = Thread(thread as u8);
-    if op <= 2 {
-        if LOCK_END <= object {
-            return Decoded::Bad(Refusal::Object);
-        }
-        let lock = Lock(object as u8);
-        if op == 1 {
-            return Decoded::Frame(Frame {
-                thread: t,
-                action: Action::Acquire(lock),
-            });
-        }
-        return Decoded::Frame(Frame {
-            thread: t,
-            action: Action::Release(lock),
-        });
-    }
-    if op <= 4 {
-        if VARIABLE_END <= object {
-            return Decoded::Bad(Refusal::Object);
-        }
-        let variable = Variable(object as u16);
-        if op == 3 {
-            return Decoded::Frame(Frame {
-                thread: t,
-                action: Action::Read(variable),
-            });
-        }
-        return Decoded::Frame(Frame {
-            thread: t,
-            action: Action::Write(variable),
-        });
-    }
-    if object != 0 {
-        return Decoded::Bad(Refusal::Object);
-    }
-    if op == 5 {
-        return Decoded::Frame(Frame {
-            thread: t,
-            action: Action::Begin,
-        });
-    }
-    Decoded::Frame(Frame {
-        thread: t,
-        action: Action::End,
-    })
-}
-
-// The parts of a word as numbers. Whether the object is one that the operation can have is not asked.
-pub fn split_word(word: u32) -> Split
+// The parts of a word as numbers. Whether the object is one that the operation can have is not asked. No frame has a part outside its range.
+pub fn split_word(word: u32) -> Option<Parts>
     ensures { result ≡ split_word word }
 {
-    let op = word / 16777216;
-    let thread = (word / 65536 % 256) as u8;
-    let object = word % 65536;
-    if op < 1 {
-        return Split::Bad;
+    let op = word / 0x1000000;
+    let thread = (word / 0x10000 % 0x100) as u8;
+    let object = word % 0x10000;
+    if op < 1 || 7 <= op || THREAD_BYTE_END <= thread || VARIABLE_END <= object {
+        return None;
     }
-    if 7 <= op {
-        return Split::Bad;
-    }
-    if THREAD_BYTE_END <= thread {
-        return Split::Bad;
-    }
-    if VARIABLE_END <= object {
-        return Split::Bad;
-    }
-    Split::Parts(Parts {
+    Some(Parts {
         operation: op as u8,
         thread: Thread(thread),
         object: object as u16,
     })
 }
 
-// The refusal of a word that does not decode.
-pub fn refusal_of(d: Decoded) -> Refusal
-    ensures { result ≡ refusal_of d }
+// Whether an object is one that an operation can have.
+fn object_fits(op: u32, object: u32) -> bool
+    ensures { result ≡ object_fits op object }
 {
-    match d {
-        Decoded::Bad(r) => r,
-        Decoded::Frame(_) => Refusal::Operation,
+    if op <= 2 {
+        object < LOCK_END
+    } else if op <= 4 {
+        object < VARIABLE_END
+    } else {
+        object == 0
+    }
+}
+
+// The action of an operation 1 to 6 with its object.
+fn action_of(op: u32, object: u32) -> Action
+    requires { object_fits op object ≡ true }
+    ensures { result ≡ action_of op object }
+{
+    match op {
+        1 => Action::Acquire(Lock(object as u8)),
+        2 => Action::Release(Lock(object as u8)),
+        3 => Action::Read(Variable(object as u16)),
+        4 => Action::Write(Variable(object as u16)),
+        5 => Action::Begin,
+        _ => Action::End,
+    }
+}
+
+// The frame of a word, or why it is none.
+impl TryFrom<u32> for Frame {
+    type Error = Refusal;
+
+    ghost try_from_gives = { λ word reply. reply ≡ decode_word word };
+
+    fn try_from(word: u32) -> Result<Frame, Refusal> {
+        let op = word / 0x1000000;
+        let thread = word / 0x10000 % 0x100;
+        let object = word % 0x10000;
+        if op < 1 || 6 < op {
+            return Err(Refusal::Operation);
+        }
+        if THREAD_END <= thread {
+            return Err(Refusal::Thread);
+        }
+        if !object_fits(op, object) {
+            return Err(Refusal::Object);
+        }
+        Ok(Frame {
+            thread: Thread(thread as u8),
+            action: action_of(op, object),
+        })
     }
 }
 
 fn word_of(op: u8, thread: u8, object: u16) -> u32
     ensures { result ≡ word_of op thread object }
 {
-    (op as u32) * 16777216 + (thread as u32) * 65536 + (object as u32)
+    u32::from(op) * 0x1000000 + u32::from(thread) * 0x10000 + u32::from(object)
 }
 
-pub fn encode(f: Frame) -> u32
-    ensures { result ≡ encode_frame f }
-{
-    let t = f.thread.0;
-    let a = f.action;
-    match a {
-        Action::Acquire(l) => word_of(1, t, l.0 as u16),
-        Action::Release(l) => word_of(2, t, l.0 as u16),
-        Action::Read(v) => word_of(3, t, v.0),
-        Action::Write(v) => word_of(4, t, v.0),
-        Action::Begin => word_of(5, t, 0),
-        Action::End => word_of(6, t, 0),
+// The word of a frame.
+impl From<Frame> for u32 {
+    ghost from_gives = { λ frame word. word ≡ encode_frame frame };
+
+    fn from(frame: Frame) -> u32 {
+        let Thread(t) = frame.thread;
+        match frame.action {
+            Action::Acquire(Lock(l)) => word_of(1, t, u16::from(l)),
+            Action::Release(Lock(l)) => word_of(2, t, u16::from(l)),
+            Action::Read(Variable(v)) => word_of(3, t, v),
+            Action::Write(Variable(v)) => word_of(4, t, v),
+            Action::Begin => word_of(5, t, 0),
+            Action::End => word_of(6, t, 0),
+        }
     }
 }
 
-pub fn refusal_number(r: Refusal) -> u8
-    ensures { result ≡ refusal_number r }
-{
-    match r {
-        Refusal::Line => 1,
-        Refusal::TooLong => 2,
-        Refusal::WordBuffer => 3,
-        Refusal::Operation => 4,
-        Refusal::Thread => 5,
-        Refusal::Object => 6,
-        Refusal::LockTaken => 7,
-        Refusal::LockNotHeld => 8,
-        Refusal::TooDeep => 9,
-        Refusal::NoOpenBlock => 10,
-        Refusal::GuardRange => 11,
-        Refusal::GuardRepeated => 12,
-        Refusal::Irreducible => 13,
-        Refusal::OpenBlock => 14,
-        Refusal::OutputBuffer => 15,
-        Refusal::SetTable => 16,
-        Refusal::LineBuffer => 17,
-        Refusal::VerdictLine => 18,
-        Refusal::TextBuffer => 19,
-        Refusal::TooOften => 20,
-        Refusal::MovesBuffer => 21,
+impl Refusal {
+    pub fn at(self, place: u32) -> Refused
+        ensures { result ≡ refused_at self place }
+    {
+        Refused {
+            reason: self,
+            place,
+        }
+    }
+}
+
+// The number of a refusal.
+impl From<Refusal> for u8 {
+    ghost from_gives = { λ reason number. number ≡ refusal_number reason };
+
+    fn from(reason: Refusal) -> u8 {
+        reason as u8
+    }
+}
+
+// The refusal of a number.
+impl TryFrom<u8> for Refusal {
+    type Error = UnknownRefusal;
+
+    ghost try_from_gives = { λ number reply. reply ≡ refusal_named number };
+
+    fn try_from(number: u8) -> Result<Refusal, UnknownRefusal> {
+        Ok(match number {
+            1 => Refusal::Line,
+            2 => Refusal::TooLong,
+            3 => Refusal::WordBuffer,
+            4 => Refusal::Operation,
+            5 => Refusal::Thread,
+            6 => Refusal::Object,
+            7 => Refusal::LockTaken,
+            8 => Refusal::LockNotHeld,
+            9 => Refusal::TooDeep,
+            10 => Refusal::NoOpenBlock,
+            11 => Refusal::GuardRange,
+            12 => Refusal::GuardRepeated,
+            13 => Refusal::Irreducible,
+            14 => Refusal::OpenBlock,
+            15 => Refusal::OutputBuffer,
+            16 => Refusal::SetTable,
+            17 => Refusal::LineBuffer,
+            18 => Refusal::VerdictLine,
+            19 => Refusal::TextBuffer,
+            20 => Refusal::TooOften,
+            21 => Refusal::MovesBuffer,
+            _ => return Err(UnknownRefusal(number)),
+        })
     }
 }

@@ -1,6 +1,7 @@
 -- Laws of guard lists, in this order: reading line by line; the table's length; that a list is never too long; what an
 -- accepted list says of its text, of the variables that it names and of the others; which lists are accepted; that line order has no
 -- meaning.
+use Rattle.std.specs.Prelude.{Ok, Err, Option, Some, None, Result}
 use Prim.Native.Nat.{ℕ, zero, suc, ◌+◌, ◌-◌, ◌*◌, ◌≤◌, ◌<◌}
 use mathlib.Core.Path.{◌≡◌, refl, sym, ap, ◌∙◌}
 use mathlib.Core.Bool.{Bool, true, false, cond}
@@ -19,8 +20,6 @@ use Rattle.frame.specs.declared.Variable.{Variable}
 use Rattle.frame.specs.declared.Refused.{Refused}
 use Rattle.frame.specs.declared.Refusal.{Refusal}
 use Rattle.frame.specs.declared.Refusal.TheVariants as refusal
-use Rattle.digits.specs.declared.Line.{Line}
-use Rattle.digits.specs.declared.Line.TheVariants as line
 use Rattle.text.specs.Text.{word_at}
 use Rattle.digits.specs.Digits.{line_of}
 use Rattle.text.proofs.Laws.{Accepted, ends, goes, accepted_length, accepted_line}
@@ -30,7 +29,6 @@ use Rattle.guards.specs.declared.Guard.TheVariants.{Locked, Unprotected}
 use Rattle.guards.specs.declared.GuardLine.{GuardLine}
 use Rattle.guards.specs.declared.GuardLine.TheVariants as guard_lines
 use Rattle.guards.specs.declared.GuardsRead.{GuardsRead}
-use Rattle.guards.specs.declared.GuardsReply.TheVariants as reply
 
 -- the lines from line i on, with the table g
 module _ (s : List ℕ) (i : ℕ) (g : List ℕ) where
@@ -49,7 +47,7 @@ module _ (s : List ℕ) (i : ℕ) (g : List ℕ) where
   guards_step k m e h = rw (e, lt-leb (length s) (9 * i) h)
 
 -- one line read: the callees' answers, and how reading goes on
-pub guards_turn : (s : List ℕ) (i : ℕ) (g : List ℕ) {x : GuardsRead} {l : Line} {o : GuardLine} → x ≡ guards_from (most_frames - i) s i g → i < most_frames → 9 * i < length s
+pub guards_turn : (s : List ℕ) (i : ℕ) (g : List ℕ) {x : GuardsRead} {l : (Option ℕ)} {o : GuardLine} → x ≡ guards_from (most_frames - i) s i g → i < most_frames → 9 * i < length s
     → l ≡ line_of s (9 * i) → o ≡ guard_line l → x ≡ on_guard_line o i g (λ g'. guards_from (most_frames - (i + 1)) s (i + 1) g')
 guards_turn s i g e h more p q = e ∙ guards_step s i g (most_frames - i) (most_frames - (i + 1)) (omega arith) more ∙ rw (q, p)
 
@@ -57,15 +55,15 @@ same_variable : (v w : Variable) (k l : Lock) → guard_lines.Names w l ≡ guar
 same_variable v w k l e = cc
 
 -- a variable that a line names has an entry in the table
-pub names_variable : (l : Line) (v : Variable) (k : Lock) → guard_line l ≡ guard_lines.Names v k → v.0 < variable_count
-names_variable (line.Word w) v k e = go (leb variable_count (guard_variable w)) refl (leb lock_count (guard_lock w)) refl
+pub names_variable : (l : Option ℕ) (v : Variable) (k : Lock) → guard_line l ≡ guard_lines.Names v k → v.0 < variable_count
+names_variable (Some w) v k e = go (leb variable_count (guard_variable w)) refl (leb lock_count (guard_lock w)) refl
   where
     go : (a : Bool) → leb variable_count (guard_variable w) ≡ a → (b : Bool) → leb lock_count (guard_lock w) ≡ b → v.0 < variable_count
     go true x b y = let f : guard_lines.Bad refusal.GuardRange ≡ guard_lines.Names v k = rw x at e in never (cc)
     go false x true y = let f : guard_lines.Bad refusal.GuardRange ≡ guard_lines.Names v k = rw (x, y) at e in never (cc)
     go false x false y =
         rw (same_variable v _ k _ (rw (x, y) at e)) (omega (arith, leb-false variable_count (guard_variable w) x))
-names_variable line.Malformed v k e = never (cc)
+names_variable None v k e = never (cc)
 
 -- A guard line's word that is taken where the table of the lines before is g.
 pub record Taken (g : List ℕ) (w : ℕ) : Type 0 where
@@ -78,7 +76,7 @@ pub data Run (s : List ℕ) : ℕ → ℕ → List ℕ → GuardsRead → Type 0
   end : {k i : ℕ} {g : List ℕ} → length s ≤ 9 * i → Run s k i g (lines i g)
   over : {i : ℕ} {g : List ℕ} → Run s zero i g (stopped refusal.TooLong most_frames g)
   stop : {k i : ℕ} {g : List ℕ} (r : Refusal) → (r ≡ refusal.TooLong → ⊥) → Run s k i g (stopped r i g)
-  go_on : {k i : ℕ} {g : List ℕ} {r : GuardsRead} (w : ℕ) → line_of s (9 * i) ≡ line.Word w → Taken g w
+  go_on : {k i : ℕ} {g : List ℕ} {r : GuardsRead} (w : ℕ) → line_of s (9 * i) ≡ Some w → Taken g w
       → Run s k (i + 1) (set g (guard_variable w) (guard_lock w)) r → Run s (suc k) i g r
 
 pub run : (k : ℕ) (s : List ℕ) (i : ℕ) (g : List ℕ) → Run s k i g (guards_from k s i g)
@@ -90,10 +88,10 @@ run zero s i g = go (leb (length s) (9 * i)) refl
     go false q = rw q over
 run (suc k) s i g = go (run k s (i + 1)) (leb (length s) (9 * i)) refl (line_of s (9 * i)) refl
   where
-    word : ((h : List ℕ) → Run s k (i + 1) h (guards_from k s (i + 1) h)) → (w : ℕ) → line_of s (9 * i) ≡ line.Word w
+    word : ((h : List ℕ) → Run s k (i + 1) h (guards_from k s (i + 1) h)) → (w : ℕ) → line_of s (9 * i) ≡ Some w
         → (a : Bool) → leb variable_count (guard_variable w) ≡ a → (b : Bool) → leb lock_count (guard_lock w) ≡ b
         → (d : Bool) → eqb (get_or g (guard_variable w) 0) unprotected_code ≡ d
-        → Run s (suc k) i g (on_guard_line (guard_line (line.Word w)) i g (λ g'. guards_from k s (i + 1) g'))
+        → Run s (suc k) i g (on_guard_line (guard_line (Some w)) i g (λ g'. guards_from k s (i + 1) g'))
     word ih w p true x b y d z = rw x (stop refusal.GuardRange (λ e. never (cc)))
     word ih w p false x true y d z = rw (x, y) (stop refusal.GuardRange (λ e. never (cc)))
     word ih w p false x false y false z = rw (x, y, z) (stop refusal.GuardRepeated (λ e. never (cc)))
@@ -108,11 +106,11 @@ run (suc k) s i g = go (run k s (i + 1)) (leb (length s) (9 * i)) refl (line_of 
         (ih (set g (guard_variable w) (guard_lock w))))
 
     go : ((h : List ℕ) → Run s k (i + 1) h (guards_from k s (i + 1) h)) → (t : Bool) → leb (length s) (9 * i) ≡ t
-        → (l : Line) → line_of s (9 * i) ≡ l → Run s (suc k) i g (guards_from (suc k) s i g)
+        → (l : Option ℕ) → line_of s (9 * i) ≡ l → Run s (suc k) i g (guards_from (suc k) s i g)
     go ih true q l p = rw q (end (leb-true (length s) (9 * i) q))
-    go ih false q (line.Word w) p =
+    go ih false q (Some w) p =
         rw (q, p) (word ih w p (leb variable_count (guard_variable w)) refl (leb lock_count (guard_lock w)) refl (eqb (get_or g (guard_variable w) 0) unprotected_code) refl)
-    go ih false q line.Malformed p = rw (q, p) (stop refusal.Line (λ e. never (cc)))
+    go ih false q None p = rw (q, p) (stop refusal.Line (λ e. never (cc)))
 
 pub whole : (s : List ℕ) → Run s most_frames 0 no_guards (guards_read s)
 whole s = run most_frames s 0 no_guards
@@ -166,12 +164,12 @@ unfolding free
 free_replicate zero = refl
 free_replicate (suc n) = omega (arith, free_replicate n)
 
-same_refused : (a b : Refused) → reply.Refused a ≡ reply.Refused b → a ≡ b
+same_refused : (a b : Refused) → ◌≡◌ {A = Result ℕ Refused} (Err a) (Err b) → a ≡ b
 same_refused a b e = cc
 
 -- each line names one variable more, so the lines never run out
 run_short : {s : List ℕ} {k i : ℕ} {g : List ℕ} {r : GuardsRead} → Run s k i g r → free g < k
-    → (p : ℕ) → r.reply ≡ reply.Refused (record { reason = refusal.TooLong; place = p }) → ⊥
+    → (p : ℕ) → r.reply ≡ Err (record { reason = refusal.TooLong; place = p }) → ⊥
 run_short (end h) b p e = never (cc)
 run_short over b p e = not-suc-le-zero b
 run_short (stop r h) b p e = h (ap (λ (z : Refused). z.reason) (same_refused _ _ e))
@@ -183,20 +181,20 @@ lists_are_never_too_long s p e = run_short (whole s) (omega (arith, free_replica
 
 -- An accepted list: the reply is n lines.
 module _ (s : List ℕ) (n : ℕ) where
-  same_lines : (i : ℕ) → reply.Lines i ≡ reply.Lines n → i ≡ n
+  same_lines : (i : ℕ) → ◌≡◌ {A = Result ℕ Refused} (Ok i) (Ok n) → i ≡ n
   same_lines i e = cc
 
-  word_of : (i w : ℕ) → line_of s (9 * i) ≡ line.Word w → word_at s i ≡ w
+  word_of : (i w : ℕ) → line_of s (9 * i) ≡ Some w → word_at s i ≡ w
   unfolding word_at
   word_of i w e = rw e
 
-  run_accepted : {k i : ℕ} {g : List ℕ} {r : GuardsRead} → Run s k i g r → r.reply ≡ reply.Lines n → Accepted s k i n
+  run_accepted : {k i : ℕ} {g : List ℕ} {r : GuardsRead} → Run s k i g r → r.reply ≡ Ok n → Accepted s k i n
   run_accepted {k} {i} (end h) e = rw (← same_lines i e) (ends h)
   run_accepted over e = never (cc)
   run_accepted (stop r h) e = never (cc)
   run_accepted (go_on w q t m) e = goes w q (run_accepted m e)
 
-  run_after : {k i : ℕ} {g : List ℕ} {r : GuardsRead} → Run s k i g r → r.reply ≡ reply.Lines n → i ≤ n
+  run_after : {k i : ℕ} {g : List ℕ} {r : GuardsRead} → Run s k i g r → r.reply ≡ Ok n → i ≤ n
   run_after {i = i} (end h) e = omega (arith, same_lines i e)
   run_after over e = never (cc)
   run_after (stop r h) e = never (cc)
@@ -215,7 +213,7 @@ module _ (s : List ℕ) (n : ℕ) where
   set_lock : (g : List ℕ) (w : ℕ) → Taken g w → get_or (set g (guard_variable w) (guard_lock w)) (guard_variable w) unprotected_code ≡ guard_lock w
   set_lock g w t = get_or-set_same g (guard_variable w) (guard_lock w) unprotected_code (inside g (guard_variable w) t.unnamed)
 
-  run_named : {k i : ℕ} {g : List ℕ} {r : GuardsRead} → Run s k i g r → r.reply ≡ reply.Lines n
+  run_named : {k i : ℕ} {g : List ℕ} {r : GuardsRead} → Run s k i g r → r.reply ≡ Ok n
       → (j : ℕ) → i ≤ j → j < n → get_or r.table (guard_variable (word_at s j)) unprotected_code ≡ guard_lock (word_at s j)
   run_named {i = i} (end h) e j a b = absurd (omega (arith, same_lines i e))
   run_named over e j a b = never (cc)
@@ -225,7 +223,7 @@ module _ (s : List ℕ) (n : ℕ) where
       let here : get_or r.table (guard_variable w) unprotected_code ≡ guard_lock w = run_keeps m (guard_variable w) (rw o (λ z. omega (arith, t.lock))) ∙ o in
       from_here (λ j. get_or r.table (guard_variable (word_at s j)) unprotected_code ≡ guard_lock (word_at s j)) i n (rw (word_of i w q) here) (λ l c d. run_named m e l c d) j a b
 
-  run_unnamed : {k i : ℕ} {g : List ℕ} {r : GuardsRead} → Run s k i g r → r.reply ≡ reply.Lines n
+  run_unnamed : {k i : ℕ} {g : List ℕ} {r : GuardsRead} → Run s k i g r → r.reply ≡ Ok n
       → (x : ℕ) → ((j : ℕ) → i ≤ j → j < n → guard_variable (word_at s j) ≡ x → ⊥) → get_or r.table x unprotected_code ≡ get_or g x unprotected_code
   run_unnamed (end h) e x f = refl
   run_unnamed over e x f = refl
@@ -234,7 +232,7 @@ module _ (s : List ℕ) (n : ℕ) where
       run_unnamed m e x (λ j a b. f j (omega arith) b)
       ∙ get_or-set_other g (guard_variable w) x (guard_lock w) unprotected_code (λ z. f i (omega arith) (omega (arith, run_after m e)) (rw (word_of i w q) (sym z)))
 
-  run_range : {k i : ℕ} {g : List ℕ} {r : GuardsRead} → Run s k i g r → r.reply ≡ reply.Lines n
+  run_range : {k i : ℕ} {g : List ℕ} {r : GuardsRead} → Run s k i g r → r.reply ≡ Ok n
       → (j : ℕ) → i ≤ j → j < n → (guard_variable (word_at s j) < variable_count) × (guard_lock (word_at s j) < lock_count)
   run_range {i = i} (end h) e j a b = absurd (omega (arith, same_lines i e))
   run_range over e j a b = never (cc)
@@ -250,7 +248,7 @@ module _ (s : List ℕ) (n : ℕ) where
   back g w t x f = sym (get_or-set_other g (guard_variable w) x (guard_lock w) unprotected_code (other g w t x f)) ∙ f
 
   -- a variable that a later line names is not named yet
-  run_fresh : {k i : ℕ} {g : List ℕ} {r : GuardsRead} → Run s k i g r → r.reply ≡ reply.Lines n
+  run_fresh : {k i : ℕ} {g : List ℕ} {r : GuardsRead} → Run s k i g r → r.reply ≡ Ok n
       → (j : ℕ) → i ≤ j → j < n → get_or g (guard_variable (word_at s j)) unprotected_code ≡ unprotected_code
   run_fresh {i = i} (end h) e j a b = absurd (omega (arith, same_lines i e))
   run_fresh over e j a b = never (cc)
@@ -263,7 +261,7 @@ module _ (s : List ℕ) (n : ℕ) where
       a
       b
 
-  run_distinct : {k i : ℕ} {g : List ℕ} {r : GuardsRead} → Run s k i g r → r.reply ≡ reply.Lines n
+  run_distinct : {k i : ℕ} {g : List ℕ} {r : GuardsRead} → Run s k i g r → r.reply ≡ Ok n
       → (j : ℕ) → i ≤ j → j < n → (l : ℕ) → j < l → l < n → guard_variable (word_at s l) ≡ guard_variable (word_at s j) → ⊥
   run_distinct {i = i} (end h) e j a b = absurd (omega (arith, same_lines i e))
   run_distinct over e j a b = never (cc)
@@ -277,7 +275,7 @@ module _ (s : List ℕ) (n : ℕ) where
       b
 
 -- What an accepted list says: the reply is n lines.
-module _ (s : List ℕ) (n : ℕ) (e : (guards_read s).reply ≡ reply.Lines n) where
+module _ (s : List ℕ) (n : ℕ) (e : (guards_read s).reply ≡ Ok n) where
   -- its text is n lines of nine bytes, each with its LF
   pub guards_length : 9 * n ≡ length s
   guards_length = accepted_length (omega arith) (run_accepted s n (whole s) e)
@@ -317,7 +315,7 @@ module _ (s : List ℕ) (n : ℕ) (a : Listed s n) where
       )
 
   all_taken : (d k i : ℕ) (g : List ℕ) → i + d ≡ n → free g < k
-      → ((j : ℕ) → i ≤ j → j < n → get_or g (guard_variable (word_at s j)) 0 ≡ unprotected_code) → (guards_from k s i g).reply ≡ reply.Lines n
+      → ((j : ℕ) → i ≤ j → j < n → get_or g (guard_variable (word_at s j)) 0 ≡ unprotected_code) → (guards_from k s i g).reply ≡ Ok n
   all_taken zero k i g e h f =
       let q : i ≡ n = omega arith in
       ap (λ (z : GuardsRead). z.reply) (guards_done s i g k (omega (arith, a.size))) ∙ rw q
@@ -332,11 +330,11 @@ module _ (s : List ℕ) (n : ℕ) (a : Listed s n) where
       (omega (arith, free_set g v (guard_lock (word_at s i)) (a.locks i l) u))
       (λ j c b. get_or-set_other g v (guard_variable (word_at s j)) (guard_lock (word_at s i)) 0 (a.distinct i j (omega arith) b) ∙ f j (omega arith) b)
 
-  pub guards_accepts : (guards_read s).reply ≡ reply.Lines n
+  pub guards_accepts : (guards_read s).reply ≡ Ok n
   guards_accepts = all_taken n most_frames 0 no_guards (omega arith) (omega (arith, free_replicate variable_count)) (λ j c b. get_or-replicate variable_count (guard_variable (word_at s j)) unprotected_code 0 (omega (arith, a.variables j b)))
 
 -- and an accepted list is one
-pub guards_listed : (s : List ℕ) (n : ℕ) → (guards_read s).reply ≡ reply.Lines n → Listed s n
+pub guards_listed : (s : List ℕ) (n : ℕ) → (guards_read s).reply ≡ Ok n → Listed s n
 guards_listed s n e = record {
   size = sym (guards_length s n e);
   line_at = λ i h. accepted_line (run_accepted s n (whole s) e) i (omega arith) h;
@@ -364,7 +362,7 @@ named s x (suc n) = go (named s x n) (eqb (guard_variable (word_at s n)) x) refl
         here i h e false p = f i (omega (arith, eqb-false i n p)) e
 
 -- "Line order in it has no meaning": two accepted lists with the same lines, each line of one at some place of the other, give one table.
-module _ (s t : List ℕ) (m n : ℕ) (e : (guards_read s).reply ≡ reply.Lines m) (u : (guards_read t).reply ≡ reply.Lines n)
+module _ (s t : List ℕ) (m n : ℕ) (e : (guards_read s).reply ≡ Ok m) (u : (guards_read t).reply ≡ Ok n)
     (f : ℕ → ℕ) (there : (i : ℕ) → i < m → (f i < n) × (word_at t (f i) ≡ word_at s i))
     (h : ℕ → ℕ) (back-here : (j : ℕ) → j < n → (h j < m) × (word_at s (h j) ≡ word_at t j)) where
   same_code : (x : ℕ) → Named s x m → get_or (guards_read s).table x unprotected_code ≡ get_or (guards_read t).table x unprotected_code

@@ -1,5 +1,6 @@
 -- A list is accepted exactly if it is `Listed`. Line order has no meaning: the lines of a rearranged list are those of the list, so it is
 -- accepted, with the same table. The first bytes decide, as they do of a text.
+use Rattle.std.specs.Prelude.{Some}
 use Prim.Native.Nat.{ℕ, zero, suc, ◌+◌, ◌-◌, ◌*◌, ◌<◌}
 use mathlib.Core.Path.{◌≡◌, refl, sym, ap, ◌∙◌, subst, fun_ext}
 use mathlib.Core.Bool.{Bool, true, false, cond}
@@ -11,7 +12,6 @@ use lib.Dec.{ltb, leb}
 use borrow.Author.Tests.{le-ltb, ltb-true, ltb-false}
 use Rattle.frame.specs.Limits.{most_frames}
 use Rattle.digits.specs.Digits.{line_of}
-use Rattle.digits.specs.declared.Line.TheVariants as line
 use Rattle.text.specs.Text.{word_in, word_at, most_bytes}
 use Rattle.text.proofs.Front.{line_front, end_front}
 use Rattle.guards.specs.declared.GuardsRead.{GuardsRead}
@@ -60,7 +60,7 @@ module _ (s t : List ℕ) (n : ℕ) (r : Rearranged s t n) where
   listed : Listed s n → Listed t n
   listed a = record {
     size = r.size_t;
-    line_at = λ j h. back j h ∙ a.line_at (r.from j) (r.from_within j h) ∙ ap line.Word (sym (word_back j h));
+    line_at = λ j h. back j h ∙ a.line_at (r.from j) (r.from_within j h) ∙ ap Some (sym (word_back j h));
     variables = λ j h. rw (word_back j h) (a.variables (r.from j) (r.from_within j h));
     locks = λ j h. rw (word_back j h) (a.locks (r.from j) (r.from_within j h));
     distinct = λ i j l h e. apart (r.from i) (r.from j) (r.from_within i (omega arith)) (r.from_within j h)

@@ -1,22 +1,18 @@
 -- What a guard list says: the guard of each variable, and what reading the list answers.
 -- "A guard list names each variable at most once; a variable not named is unprotected. Line order in it has no meaning."
 -- Quotes are from docs/FORMAT.md.
-use Rattle.std.specs.Prelude.{ℕ, zero, suc, ◌+◌, ◌*◌, ◌/◌, ◌%◌, cond, List, length, get_or, set, replicate, ltb, leb, eqb}
+use Rattle.std.specs.Prelude.{ℕ, zero, suc, ◌+◌, ◌*◌, ◌/◌, ◌%◌, cond, List, length, get_or, set, replicate, ltb, leb, eqb, Ok, Err, Option, Some, None, Result}
 use Rattle.frame.specs.Refusal.{refused_at}
 use Rattle.frame.specs.Limits.{lock_count, variable_count, most_frames}
 use Rattle.frame.specs.declared.Refusal.{Refusal}
 use Rattle.frame.specs.declared.Refusal.TheVariants as refusal
-use Rattle.digits.specs.declared.Line.{Line}
-use Rattle.digits.specs.declared.Line.TheVariants as line
 use Rattle.digits.specs.Digits.{line_of}
 use Rattle.text.specs.Text.{word_at}
 use Rattle.guards.specs.declared.Judgement.{Judgement}
 use Rattle.guards.specs.declared.Judgement.TheVariants as judgement
 use Rattle.guards.specs.declared.Guard.{Guard}
 use Rattle.guards.specs.declared.Guard.TheVariants.{Locked, Unprotected, Inferred}
-use Rattle.guards.specs.declared.GuardsReply.TheVariants as reply
 use Rattle.guards.specs.declared.GuardLine.{GuardLine}
-use Rattle.guards.specs.declared.GuardLine.TheVariants as guard_lines
 use Rattle.guards.specs.declared.GuardsRead.{GuardsRead}
 
 -- The codes of a variable that is unprotected, and of one whose guard is inferred; below them, a lock is its own code.
@@ -38,26 +34,26 @@ abbrev pub guard_lock : ℕ → ℕ
 guard_lock w = w % 65536
 
 abbrev pub lines : ℕ → List ℕ → GuardsRead
-lines n g = record { reply = reply.Lines n; table = g }
+lines n g = record { reply = Ok n; table = g }
 
 abbrev pub stopped : Refusal → ℕ → List ℕ → GuardsRead
-stopped r p g = record { reply = reply.Refused (refused_at r p); table = g }
+stopped r p g = record { reply = Err (refused_at r p); table = g }
 
 -- "A guard line is tested for 1 before 11": what a line names on its own, or its refusal.
 -- "11: variable above 1023 or lock above 63".
-abbrev pub guard_line : Line → GuardLine
-guard_line (line.Word w) =
-    cond (leb variable_count (guard_variable w)) (guard_lines.Bad refusal.GuardRange)
-    (cond (leb lock_count (guard_lock w)) (guard_lines.Bad refusal.GuardRange)
-    (guard_lines.Names (record { 0 = guard_variable w }) (record { 0 = guard_lock w })))
-guard_line line.Malformed = guard_lines.Bad refusal.Line
+abbrev pub guard_line : Option ℕ → Result GuardLine Refusal
+guard_line (Some w) =
+    cond (leb variable_count (guard_variable w)) (Err refusal.GuardRange)
+    (cond (leb lock_count (guard_lock w)) (Err refusal.GuardRange)
+    (Ok (record { variable = record { 0 = guard_variable w }; lock = record { 0 = guard_lock w } })))
+guard_line None = Err refusal.Line
 
 -- "and 11 before 12": line i, with the table g of the lines before it. "12: variable already named".
 -- `more` takes the table with the line's guard.
-abbrev pub on_guard_line : GuardLine → ℕ → List ℕ → (List ℕ → GuardsRead) → GuardsRead
-on_guard_line (guard_lines.Names v l) i g more =
+abbrev pub on_guard_line : Result GuardLine Refusal → ℕ → List ℕ → (List ℕ → GuardsRead) → GuardsRead
+on_guard_line (Ok x) i g more =
     cond (eqb (get_or g v.0 0) unprotected_code) (more (set g v.0 l.0)) (stopped refusal.GuardRepeated i g)
-on_guard_line (guard_lines.Bad r) i g more = stopped r i g
+on_guard_line (Err r) i g more = stopped r i g
 
 -- "guard list, line by line": the lines from line i on, of which k more may come, with the table g of the lines before.
 -- Where a line is refused, the table is the one so far; callers do not use it. `ListsAreNeverTooLong` says that k never runs out.

@@ -5,7 +5,7 @@
 ghost use Rattle.std.specs.Prelude.{◌≡◌};
 ghost use Rattle.guards.specs.Guards.{guard_of, guard_line, guards_read, guards_under};
 
-use digits::{Line, digit_values, read_line};
+use digits::{digit_values, read_line};
 use frame::{LOCKS, Lock, MOST, MOST_PLACE, Refusal, Refused, VARIABLES, Variable};
 use text::MOST_BYTES;
 
@@ -34,24 +34,17 @@ pub enum Guard {
     Inferred,
 }
 
-// What a guard line names, or why it is refused on its own.
+// What a guard line names.
 #[derive(Clone, Copy)]
-enum GuardLine {
-    Names(Variable, Lock),
-    Bad(Refusal),
-}
-
-// The number of lines of a guard list, or why it is refused.
-#[derive(Clone, Copy)]
-pub enum GuardsReply {
-    Lines(u32),
-    Refused(Refused),
+struct GuardLine {
+    variable: Variable,
+    lock: Lock,
 }
 
 // What reading a guard list answers. Where the list is refused, the table is the one that the lines before give.
 #[derive(Drop)]
 pub struct GuardsRead {
-    pub reply: GuardsReply,
+    pub reply: Result<u32, Refused>,
     pub table: [u8; VARIABLES],
 }
 
@@ -69,21 +62,24 @@ pub fn guard_of(code: u8) -> Guard
 }
 
 // What a line names on its own: a variable and its lock, or why it is refused.
-fn guard_line(l: Line) -> GuardLine
+fn guard_line(l: Option<u32>) -> Result<GuardLine, Refusal>
     ensures { result ≡ guard_line l }
 {
-    let Line::Word(w) = l else {
-        return GuardLine::Bad(Refusal::Line);
+    let Some(w) = l else {
+        return Err(Refusal::Line);
     };
     let variable = w / 65536;
     let lock = w % 65536;
     if VARIABLE_END <= variable {
-        return GuardLine::Bad(Refusal::GuardRange);
+        return Err(Refusal::GuardRange);
     }
     if LOCK_END <= lock {
-        return GuardLine::Bad(Refusal::GuardRange);
+        return Err(Refusal::GuardRange);
     }
-    GuardLine::Names(Variable(variable as u16), Lock(lock as u8))
+    Ok(GuardLine {
+        variable: Variable(variable as u16),
+        lock: Lock(lock as u8),
+    })
 }
 
 // The guards of a list: each line names a variable and its lock, and a variable that no line names is unprotected.
@@ -96,45 +92,45 @@ pub fn read_guards(list: &[u8]) -> GuardsRead
     while i < MOST {
         if list.len() <= 9 * i {
             return GuardsRead {
-                reply: GuardsReply::Lines(i as u32),
+                reply: Ok(i as u32),
                 table: table,
             };
         }
         let l = guard_line(read_line(&t, list, 9 * i));
         match l {
-            GuardLine::Bad(r) => {
+            Err(r) => {
                 return GuardsRead {
-                    reply: GuardsReply::Refused(Refused {
+                    reply: Err(Refused {
                         reason: r,
                         place: i as u32,
                     }),
                     table: table,
                 };
             }
-            GuardLine::Names(v, k) => {
-                let x = v.0 as usize;
+            Ok(g) => {
+                let x = g.variable.0 as usize;
                 if table[x] != UNPROTECTED {
                     return GuardsRead {
-                        reply: GuardsReply::Refused(Refused {
+                        reply: Err(Refused {
                             reason: Refusal::GuardRepeated,
                             place: i as u32,
                         }),
                         table: table,
                     };
                 }
-                table[x] = k.0;
+                table[x] = g.lock.0;
                 i += 1;
             }
         }
     }
     if list.len() <= MOST_BYTES {
         return GuardsRead {
-            reply: GuardsReply::Lines(MOST_PLACE),
+            reply: Ok(MOST_PLACE),
             table: table,
         };
     }
     GuardsRead {
-        reply: GuardsReply::Refused(Refused {
+        reply: Err(Refused {
             reason: Refusal::TooLong,
             place: MOST_PLACE,
         }),
@@ -149,7 +145,7 @@ pub fn guards_under(j: Judgement, list: &[u8]) -> GuardsRead
     match j {
         Judgement::Declared => read_guards(list),
         Judgement::Inferred => GuardsRead {
-            reply: GuardsReply::Lines(0),
+            reply: Ok(0),
             table: [INFERRED; VARIABLES],
         },
     }

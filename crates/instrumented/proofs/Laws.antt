@@ -1,4 +1,5 @@
 -- Laws of the rules for one operation: the set of one lock, and what a thread does after commit and else.
+use Rattle.std.specs.Prelude.{Ok}
 use Prim.Native.Nat.{ℕ, ◌*◌, ◌^◌, ◌%◌, ◌<◌}
 use mathlib.Core.Path.{◌≡◌, refl, sym, ap, ◌∙◌}
 use mathlib.Core.Logic.{◌⊎◌, inl, inr, ⊎_elim}
@@ -9,7 +10,6 @@ use lib.Dec.{eqb}
 use lib.Pow.{shl_exact}
 use Rattle.frame.specs.Limits.{lock_count}
 use Rattle.frame.specs.declared.Thread.{Thread}
-use Rattle.reply.specs.declared.Verdict.TheVariants.{Reducible}
 use Rattle.frame.specs.declared.Lock.{Lock}
 use Rattle.reply.specs.declared.Kind.TheVariants as kind
 use Rattle.instrumented.specs.Rules.{Phase, outside, before, Judging, judged, violation, phase_of, acquire_in, unprotected_in}
@@ -41,8 +41,8 @@ module _ (i : ℕ) (t : Thread) (d b c : ℕ) (j : Judging) where
     else_is false e true f = inr (rw (e, f))
     else_is false e false f = absurd (true≢false (rw (e, f) at a))
 
-    pub acquire_else : (l : Lock) → acquire_in (phase_of d b c) i t l j ≡ judged Reducible j
+    pub acquire_else : (l : Lock) → acquire_in (phase_of d b c) i t l j ≡ judged (Ok tt) j
     acquire_else l = ⊎_elim (λ e. ap (λ (p : Phase). acquire_in p i t l j) e) (λ e. ap (λ (p : Phase). acquire_in p i t l j) e) (else_is (eqb d 0) refl (eqb c 0) refl)
 
-    pub unprotected_else : (n : Judging) → unprotected_in (phase_of d b c) i t n j ≡ judged Reducible n
+    pub unprotected_else : (n : Judging) → unprotected_in (phase_of d b c) i t n j ≡ judged (Ok tt) n
     unprotected_else n = ⊎_elim (λ e. ap (λ (p : Phase). unprotected_in p i t n j) e) (λ e. ap (λ (p : Phase). unprotected_in p i t n j) e) (else_is (eqb d 0) refl (eqb c 0) refl)

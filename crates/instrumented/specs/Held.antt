@@ -1,9 +1,8 @@
 -- The locks that a thread holds, as a set: by the owners, and as the code keeps them in a table of one set for each thread.
 -- Quotes are from docs/FORMAT.md.
-use Rattle.std.specs.Prelude.{ℕ, ◌+◌, ◌-◌, ◌*◌, ◌^◌, ◌≤◌, ◌<◌, ◌≡◌, cond, List, [], ◌∷◌, eqb, length, get_or, set}
+use Rattle.std.specs.Prelude.{ℕ, ◌+◌, ◌-◌, ◌*◌, ◌^◌, ◌≤◌, ◌<◌, ◌≡◌, cond, List, [], ◌∷◌, eqb, length, get_or, set, Ok, Err}
 use Rattle.frame.specs.Limits.{thread_count, lock_count, variable_count}
-use Rattle.reply.specs.declared.Verdict.{Verdict}
-use Rattle.reply.specs.declared.Verdict.TheVariants.{Reducible, Violated}
+use Rattle.reply.specs.Reply.{Verdict}
 use Rattle.operation.specs.declared.Operation.{Operation}
 use Rattle.operation.specs.declared.Operation.TheVariants.{Acquire, Release, Protected, Unprotected, Inferred, Begin, End}
 
@@ -33,8 +32,8 @@ held t Begin hs = hs
 held t End hs = hs
 
 abbrev pub holding : Verdict → ℕ → Operation → List ℕ → List ℕ
-holding Reducible t o hs = held t o hs
-holding (Violated v) t o hs = hs
+holding (Ok tt) t o hs = held t o hs
+holding (Err v) t o hs = hs
 
 -- The table of held sets is that of the owners.
 pub record Follows (held owners : List ℕ) : Type 0 where

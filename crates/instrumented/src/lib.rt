@@ -11,11 +11,11 @@ use frame::{Lock, THREADS, Thread, VARIABLES};
 use operation::Operation;
 use reply::Kind;
 
-// What is wrong with a frame: nothing, or a kind of violation, and the locks that it carries.
+// What is wrong with a frame: a kind of violation, and the locks that it carries.
 #[derive(Clone, Copy)]
-pub enum Fault {
-    None,
-    Wrong(Kind, u64),
+pub struct Fault {
+    pub kind: Kind,
+    pub locks: u64,
 }
 
 // The set of one lock.
@@ -69,7 +69,7 @@ pub fn apply(
     i: u32,
     thread: Thread,
     op: Operation,
-) -> Fault
+) -> Result<(), Fault>
     requires fact_1 { thread.0 < thread_count }
     requires fact_2 { i < 4294967295 }
     requires fact_3 { Holdable op (get_or held.old thread.0 0) }
@@ -81,47 +81,59 @@ pub fn apply(
         Operation::Acquire(l) => {
             let s = single(l);
             if after_commit(d, commits[k]) {
-                return Fault::Wrong(Kind::AcquireAfterCommit, s);
+                return Err(Fault {
+                    kind: Kind::AcquireAfterCommit,
+                    locks: s,
+                });
             }
             held[k] = held[k] + s;
-            Fault::None
+            Ok(())
         }
         Operation::Release(l) => {
             held[k] = held[k] - single(l);
             commits[k] = commit_at(d, commits[k], i);
-            Fault::None
+            Ok(())
         }
         Operation::Protected(m) => {
             if contains(held[k], m) {
-                return Fault::None;
+                return Ok(());
             }
-            Fault::Wrong(Kind::GuardNotHeld, single(m))
+            Err(Fault {
+                kind: Kind::GuardNotHeld,
+                locks: single(m),
+            })
         }
         Operation::Unprotected => {
             let c = commits[k];
             if after_commit(d, c) {
-                return Fault::Wrong(Kind::UnprotectedAfterCommit, 0);
+                return Err(Fault {
+                    kind: Kind::UnprotectedAfterCommit,
+                    locks: 0,
+                });
             }
             commits[k] = commit_at(d, c, i);
-            Fault::None
+            Ok(())
         }
         Operation::Inferred(v) => {
             let n = v.0 as usize;
             let s = sets[n];
             let x = s & held[k];
             if x == 0 {
-                return Fault::Wrong(Kind::SetEmptied, s);
+                return Err(Fault {
+                    kind: Kind::SetEmptied,
+                    locks: s,
+                });
             }
             sets[n] = x;
-            Fault::None
+            Ok(())
         }
         Operation::Begin => {
             if d == 0 {
                 begins[k] = i;
                 commits[k] = 0;
             }
-            Fault::None
+            Ok(())
         }
-        Operation::End => Fault::None,
+        Operation::End => Ok(()),
     }
 }

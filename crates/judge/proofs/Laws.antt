@@ -1,4 +1,5 @@
 -- Laws of the step of one frame.
+use Rattle.std.specs.Prelude.{Ok, Err, Some, None}
 use Prim.Native.Nat.{ℕ, ◌-◌, ◌^◌, ◌<◌}
 use mathlib.Core.Path.{◌≡◌, refl, sym, ap, ◌∙◌}
 use mathlib.Core.Bool.{Bool, true, false, cond}
@@ -11,11 +12,9 @@ use Rattle.frame.specs.Limits.{variable_count, lock_count}
 use Rattle.laws.proofs.Logic.{never, either}
 use Rattle.frame.specs.declared.Thread.{Thread}
 use Rattle.reply.specs.declared.Kind.{Kind}
-use Rattle.reply.specs.declared.Mark.TheVariants.{At, Absent}
-use Rattle.reply.specs.declared.Verdict.TheVariants.{Violated, Reducible}
 use Rattle.frame.specs.declared.Lock.{Lock}
 use Rattle.reply.specs.declared.Kind.TheVariants as kind
-use Rattle.reply.specs.declared.Verdict.{Verdict}
+use Rattle.reply.specs.Reply.{Verdict}
 use Rattle.reply.specs.declared.Violation.{Violation}
 use Rattle.frame.specs.declared.Variable.{Variable}
 use Rattle.guards.specs.Guards.{guard_of, unprotected_code}
@@ -27,12 +26,12 @@ use Rattle.operation.specs.declared.Operation.TheVariants.{Acquire, Release, Pro
 
 -- the marks of a violation, from depth, begin and commit
 pub marks : (k : Kind) (i : ℕ) (t : Thread) (d b c l : ℕ)
-    → Violated (record { kind = k; frame = i; thread = t; begin = cond (eqb d 0) Absent (At b); commit = cond (eqb d 0) Absent (cond (eqb c 0) Absent (At (c - 1))); locks = l })
+    → Err (record { kind = k; frame = i; thread = t; begin = cond (eqb d 0) None (Some b); commit = cond (eqb d 0) None (cond (eqb c 0) None (Some (c - 1))); locks = l })
     ≡ violation k i t (phase_of d b c) l
 marks k i t d b c l = go (eqb d 0) refl (eqb c 0) refl
   where
     go : (p : Bool) → eqb d 0 ≡ p → (q : Bool) → eqb c 0 ≡ q
-        → Violated (record { kind = k; frame = i; thread = t; begin = cond (eqb d 0) Absent (At b); commit = cond (eqb d 0) Absent (cond (eqb c 0) Absent (At (c - 1))); locks = l })
+        → Err (record { kind = k; frame = i; thread = t; begin = cond (eqb d 0) None (Some b); commit = cond (eqb d 0) None (cond (eqb c 0) None (Some (c - 1))); locks = l })
         ≡ violation k i t (phase_of d b c) l
     go true e q f = rw e
     go false e true f = rw (e, f)
@@ -40,11 +39,11 @@ marks k i t d b c l = go (eqb d 0) refl (eqb c 0) refl
 
 -- a frame that goes wrong leaves the state as it was
 abbrev Keeps : Judging → Judged → Type 0
-Keeps j x = (v : Violation) (k : Judging) → x ≡ judged (Violated v) k → k ≡ j
+Keeps j x = (v : Violation) (k : Judging) → x ≡ judged (Err v) k → k ≡ j
 
-keeps_go : (j n : Judging) → Keeps j (judged Reducible n)
+keeps_go : (j n : Judging) → Keeps j (judged (Ok tt) n)
 keeps_go j n v k e =
-    let f : Reducible ≡ Violated v = ap (λ (x : Judged). x.verdict) e in
+    let f : ◌≡◌ {A = Verdict} (Ok tt) (Err v) = ap (λ (x : Judged). x.verdict) e in
     never (cc)
 
 keeps_wrong : (j : Judging) (w : Verdict) → Keeps j (judged w j)

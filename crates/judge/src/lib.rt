@@ -8,30 +8,29 @@ ghost use Rattle.instrumented.specs.Rules.{violation, phase_of, judging_of, judg
 ghost use Rattle.instrumented.specs.Held.{Holdable, holding};
 
 use frame::{THREADS, Thread, VARIABLES};
-use instrumented::Fault;
 use operation::Operation;
-use reply::{Kind, Mark, Verdict, Violation};
+use reply::{Kind, Verdict, Violation};
 
 // The outermost begin of a thread at depth d, where a block is open.
-fn begin_mark(d: u8, begin: u32) -> Mark
-    ensures { result ≡ cond (eqb d 0) Mark.Absent (Mark.At begin) }
+fn begin_mark(d: u8, begin: u32) -> Option<u32>
+    ensures { result ≡ cond (eqb d 0) None (Some begin) }
 {
     if d == 0 {
-        return Mark::Absent;
+        return None;
     }
-    Mark::At(begin)
+    Some(begin)
 }
 
-fn commit_mark(d: u8, commit: u32) -> Mark
-    ensures { result ≡ cond (eqb d 0) Mark.Absent (cond (eqb commit 0) Mark.Absent (Mark.At (commit - 1))) }
+fn commit_mark(d: u8, commit: u32) -> Option<u32>
+    ensures { result ≡ cond (eqb d 0) None (cond (eqb commit 0) None (Some (commit - 1))) }
 {
     if d == 0 {
-        return Mark::Absent;
+        return None;
     }
     if commit == 0 {
-        return Mark::Absent;
+        return None;
     }
-    Mark::At(commit - 1)
+    Some(commit - 1)
 }
 
 fn wrong(kind: Kind, i: u32, thread: Thread, d: u8, begin: u32, commit: u32, locks: u64) -> Verdict
@@ -39,7 +38,7 @@ fn wrong(kind: Kind, i: u32, thread: Thread, d: u8, begin: u32, commit: u32, loc
 {
     let b = begin_mark(d, begin);
     let c = commit_mark(d, commit);
-    Verdict::Violated(Violation {
+    Err(Violation {
         kind: kind,
         frame: i,
         thread: thread,
@@ -68,10 +67,10 @@ pub fn judge(
 {
     let f = instrumented::apply(held, begins, commits, sets, d, i, thread, op);
     match f {
-        Fault::None => Verdict::Reducible,
-        Fault::Wrong(kind, locks) => {
+        Ok(()) => Ok(()),
+        Err(fault) => {
             let k = thread.0 as usize;
-            wrong(kind, i, thread, d, begins[k], commits[k], locks)
+            wrong(fault.kind, i, thread, d, begins[k], commits[k], fault.locks)
         }
     }
 }

@@ -1,19 +1,13 @@
 -- The reply that the fields of a verdict line tell. In this order: a refusal by its number, a violation, the reply.
 -- Quotes are from docs/FORMAT.md.
-use Rattle.std.specs.Prelude.{ℕ, ◌+◌, ◌-◌, ◌%◌, cond, List, [], ◌∷◌, eqb, ltb, length, get_or}
+use Rattle.std.specs.Prelude.{ℕ, ◌+◌, ◌-◌, ◌%◌, cond, List, [], ◌∷◌, eqb, ltb, length, get_or, Result, Ok, Err, Option, Some, None}
 use Rattle.frame.specs.declared.Refusal.{Refusal}
 use Rattle.frame.specs.declared.Refusal.TheVariants as refusal
-use Rattle.reply.specs.Reply.{reducible, violated, refused}
+use Rattle.reply.specs.Reply.{reducible, violated, refused, Reply}
 use Rattle.reply.specs.declared.Kind.{Kind}
 use Rattle.reply.specs.declared.Kind.TheVariants as kind
-use Rattle.reply.specs.declared.Mark.{Mark}
-use Rattle.reply.specs.declared.Mark.TheVariants as mark
 use Rattle.reply.specs.declared.Violation.{Violation}
 use Rattle.line.specs.declared.Fields.{Fields}
-use Rattle.line.specs.declared.LineMark.{LineMark}
-use Rattle.line.specs.declared.LineMark.TheVariants as line_marks
-use Rattle.kept.specs.declared.Kept.{Kept}
-use Rattle.kept.specs.declared.Kept.TheVariants as kept
 
 -- The refusals in the order of their numbers, and the one of a number from 1 on.
 abbrev pub refusals : List Refusal
@@ -38,9 +32,9 @@ abbrev pub kind_by : ℕ → Kind
 kind_by n = get_or kinds (n - 1) kind.GuardNotHeld
 
 -- A begin or a commit of a line, in a violation.
-abbrev pub mark_of : LineMark → Mark
-mark_of (line_marks.At i) = mark.At i
-mark_of line_marks.Absent = mark.Absent
+abbrev pub mark_of : Option ℕ → Option ℕ
+mark_of (Some i) = Some i
+mark_of None = None
 
 -- The violation of a line.
 abbrev pub violation_of : Fields → Violation
@@ -55,12 +49,12 @@ violation_of f = record {
 
 -- The reply of a line of kind k: reducible, a violation, or a refusal; "Refusal n: kind 80 hexadecimal plus n, frame = place". Of any other kind
 -- it is the number alone of a refusal, "which this check does not give" (docs/TOOL.md).
-unfoldable pub kept_by : ℕ → Fields → Kept
+unfoldable pub kept_by : ℕ → Fields → Result Reply ℕ
 kept_by k f =
-    cond (eqb k 0) (kept.Reply reducible)
-    (cond (ltb k 5) (kept.Reply (violated (violation_of f)))
-    (cond (ltb k 129) (kept.Other (k % 128))
-    (cond (ltb last_kind k) (kept.Other (k % 128)) (kept.Reply (refused (refusal_by (k - 128)) f.frame)))))
+    cond (eqb k 0) (Ok reducible)
+    (cond (ltb k 5) (Ok (violated (violation_of f)))
+    (cond (ltb k 129) (Err (k % 128))
+    (cond (ltb last_kind k) (Err (k % 128)) (Ok (refused (refusal_by (k - 128)) f.frame)))))
 
-abbrev pub kept_reply : Fields → Kept
+abbrev pub kept_reply : Fields → Result Reply ℕ
 kept_reply f = kept_by f.kind f

@@ -6,15 +6,8 @@ ghost use Rattle.std.specs.Prelude.{◌≡◌, ◌≤◌};
 ghost use Rattle.kept.specs.Kept.{refusal_by, kind_by, mark_of, violation_of, kept_reply};
 
 use frame::{Refusal, Refused, Thread};
-use line::{Fields, LineMark};
-use reply::{Kind, Mark, Reply, Verdict, Violation};
-
-// A reply, or the number of a refusal that this check does not give.
-#[derive(Clone, Copy)]
-pub enum Kept {
-    Reply(Reply),
-    Other(u8),
-}
+use line::{Fields, Place};
+use reply::{Kind, Reply, Violation};
 
 // The highest kind of a line of this check: 80 hexadecimal plus the number of refusals.
 const LAST_KIND: u8 = 128 + 21;
@@ -69,12 +62,12 @@ fn kind_by(n: u8) -> Kind
 }
 
 // The begin or the commit of a line, in a violation.
-fn mark_of(m: LineMark) -> Mark
+fn mark_of(m: Option<Place>) -> Option<u32>
     ensures { result ≡ mark_of m }
 {
     match m {
-        LineMark::At(i) => Mark::At(i as u32),
-        LineMark::Absent => Mark::Absent,
+        Some(i) => Some(i as u32),
+        None => None,
     }
 }
 
@@ -97,25 +90,25 @@ fn violation_of(f: Fields) -> Violation
 }
 
 // The reply of a line.
-pub fn reply_of(f: Fields) -> Kept
+pub fn reply_of(f: Fields) -> Result<Reply, u8>
     ensures { result ≡ kept_reply f }
 {
     let k = f.kind;
     if k == 0 {
-        return Kept::Reply(Reply::Judged(Verdict::Reducible));
+        return Ok(Ok(Ok(())));
     }
     if k < 5 {
         let v = violation_of(f);
-        return Kept::Reply(Reply::Judged(Verdict::Violated(v)));
+        return Ok(Ok(Err(v)));
     }
     if k < 129 {
-        return Kept::Other(k % 128);
+        return Err(k % 128);
     }
     if LAST_KIND < k {
-        return Kept::Other(k % 128);
+        return Err(k % 128);
     }
     let reason = refusal_by(k - 128);
-    Kept::Reply(Reply::Refused(Refused {
+    Ok(Err(Refused {
         reason: reason,
         place: f.frame as u32,
     }))

@@ -1,4 +1,5 @@
 -- A line is exact: fields are told by their digits.
+use Rattle.std.specs.Prelude.{Option, Some, None}
 use Prim.Native.Nat.{ℕ, ◌<◌}
 use mathlib.Core.Path.{◌≡◌, refl, ap, ◌∙◌}
 use mathlib.Core.List.{List, [], ◌∷◌, ◌++◌}
@@ -8,8 +9,6 @@ use Rattle.digits.specs.Digits.{digits, too_wide}
 use Rattle.digits.proofs.Writing.{length_digits}
 use Rattle.digits.proofs.Inverse.{digits_same}
 use Rattle.line.specs.declared.Fields.{Fields}
-use Rattle.line.specs.declared.LineMark.{LineMark}
-use Rattle.line.specs.declared.LineMark.TheVariants as line_marks
 use Rattle.line.specs.Line.{kind_width, place_width, thread_width, locks_width, mark_field, MarkTold, reply_fields, fields_line, Exact, LinesAreExact}
 
 -- lists that are the same, with fronts of one length
@@ -40,17 +39,17 @@ abbrev all6 : Fields → List ℕ
 all6 f = first5 f ++ digits locks_width f.locks
 
 -- a begin or a commit that is told, of a line's width
-told_held : (m : LineMark) → MarkTold place_width m → mark_field place_width m < too_wide place_width
-told_held (line_marks.At i) h = omega arith
-told_held line_marks.Absent h = omega arith
+told_held : (m : Option ℕ) → MarkTold place_width m → mark_field place_width m < too_wide place_width
+told_held (Some i) h = omega arith
+told_held None h = omega arith
 
-told_same : (m k : LineMark) → MarkTold place_width m → MarkTold place_width k → mark_field place_width m ≡ mark_field place_width k → m ≡ k
-told_same (line_marks.At i) (line_marks.At j) h l e = ap line_marks.At e
-told_same (line_marks.At i) line_marks.Absent h l e = absurd (omega arith)
-told_same line_marks.Absent (line_marks.At j) h l e = absurd (omega arith)
-told_same line_marks.Absent line_marks.Absent h l e = refl
+told_same : (m k : Option ℕ) → MarkTold place_width m → MarkTold place_width k → mark_field place_width m ≡ mark_field place_width k → m ≡ k
+told_same (Some i) (Some j) h l e = ap Some e
+told_same (Some i) None h l e = absurd (omega arith)
+told_same None (Some j) h l e = absurd (omega arith)
+told_same None None h l e = refl
 
-mark_same : (m k : LineMark) → MarkTold place_width m → MarkTold place_width k
+mark_same : (m k : Option ℕ) → MarkTold place_width m → MarkTold place_width k
     → digits place_width (mark_field place_width m) ≡ digits place_width (mark_field place_width k) → m ≡ k
 mark_same m k h l e =
     told_same m k h l (digits_same place_width (mark_field place_width m) (mark_field place_width k) (told_held m h) (told_held k l) e)

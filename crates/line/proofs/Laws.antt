@@ -1,4 +1,5 @@
 -- Laws of lines: how many bytes there are, the line of fields with low digits alone, and the fields written.
+use Rattle.std.specs.Prelude.{Option, Some, None}
 use Prim.Native.Nat.{ℕ}
 use mathlib.Core.Path.{◌≡◌, refl}
 use mathlib.Core.List.{List, [], ◌++◌}
@@ -6,8 +7,6 @@ use lib.ListN.{length, replicate, length-append}
 use Rattle.digits.specs.Digits.{digits, pasted}
 use Rattle.digits.proofs.Writing.{length_digits, digits_low, pasted_next}
 use Rattle.line.specs.declared.Fields.{Fields}
-use Rattle.line.specs.declared.LineMark.{LineMark}
-use Rattle.line.specs.declared.LineMark.TheVariants as line_marks
 use Rattle.line.specs.Line.{kind_width, place_width, thread_width, locks_width, thread_at, begin_at, commit_at, locks_at, mark_field, held_mark, held_fields, line_length, fields_line}
 
 -- the bytes of a line
@@ -15,9 +14,9 @@ pub length_fields_line : (f : Fields) → length (fields_line f) ≡ line_length
 unfolding fields_line
 length_fields_line f = simp (length-append, length_digits)
 
-held_mark_lem : (m : LineMark) → digits place_width (mark_field place_width (held_mark m)) ≡ digits place_width (mark_field place_width m)
-held_mark_lem (line_marks.At i) = digits_low place_width i
-held_mark_lem line_marks.Absent = refl
+held_mark_lem : (m : Option ℕ) → digits place_width (mark_field place_width (held_mark m)) ≡ digits place_width (mark_field place_width m)
+held_mark_lem (Some i) = digits_low place_width i
+held_mark_lem None = refl
 
 -- a line has the low digits of a place alone
 pub held_line : (f : Fields) → fields_line (held_fields f) ≡ fields_line f

@@ -1,18 +1,10 @@
 -- The fields of a reply with their digits, the bytes of its verdict line, and for which replies these are exact.
 -- Quotes are from docs/FORMAT.md.
-use Rattle.std.specs.Prelude.{ℕ, ◌+◌, ◌-◌, ◌%◌, ◌<◌, ◌≡◌, cond, List, [], ◌∷◌, ◌++◌, eqb}
+use Rattle.std.specs.Prelude.{ℕ, ◌+◌, ◌-◌, ◌%◌, ◌<◌, ◌≡◌, cond, List, [], ◌∷◌, ◌++◌, eqb, Ok, Err, Option, Some, None}
 use Rattle.frame.specs.Refusal.{refusal_number}
 use Rattle.digits.specs.Digits.{digits, too_wide}
-use Rattle.reply.specs.Reply.{kind_number}
-use Rattle.reply.specs.declared.Mark.{Mark}
-use Rattle.reply.specs.declared.Mark.TheVariants as mark
-use Rattle.reply.specs.declared.Verdict.{Verdict}
-use Rattle.reply.specs.declared.Verdict.TheVariants as verdict
-use Rattle.reply.specs.declared.Reply.{Reply}
-use Rattle.reply.specs.declared.Reply.TheVariants as reply
+use Rattle.reply.specs.Reply.{kind_number, Verdict, Reply}
 use Rattle.line.specs.declared.Fields.{Fields}
-use Rattle.line.specs.declared.LineMark.{LineMark}
-use Rattle.line.specs.declared.LineMark.TheVariants as line_marks
 
 -- "A verdict line is 32 digits and LF: kind (2), frame (4), thread (2), begin (4), commit (4), locks (16)." The digits of each; a frame, a
 -- begin and a commit are places.
@@ -56,27 +48,27 @@ abbrev pub absent_in : ℕ → ℕ
 absent_in n = too_wide n - 1
 
 -- The number that is written in n digits for a begin or a commit.
-abbrev pub mark_field : ℕ → LineMark → ℕ
-mark_field n (line_marks.At i) = i
-mark_field n line_marks.Absent = absent_in n
+abbrev pub mark_field : ℕ → Option ℕ → ℕ
+mark_field n (Some i) = i
+mark_field n None = absent_in n
 
 -- "FFFF in begin or commit is always absent": what a number in n digits says of a begin or a commit.
-abbrev pub field_mark : ℕ → ℕ → LineMark
-field_mark n v = cond (eqb v (absent_in n)) line_marks.Absent (line_marks.At v)
+abbrev pub field_mark : ℕ → ℕ → Option ℕ
+field_mark n v = cond (eqb v (absent_in n)) None (Some v)
 
 -- A begin or a commit of a violation, in a line.
-abbrev pub line_mark : Mark → LineMark
-line_mark (mark.At i) = line_marks.At i
-line_mark mark.Absent = line_marks.Absent
+abbrev pub line_mark : Option ℕ → Option ℕ
+line_mark (Some i) = Some i
+line_mark None = None
 
 -- Of a kind and a frame, with "thread 00, FFFF twice, locks zero".
 abbrev pub bare_fields : ℕ → ℕ → Fields
-bare_fields k p = record { kind = k; frame = p; thread = 0; begin = line_marks.Absent; commit = line_marks.Absent; locks = 0 }
+bare_fields k p = record { kind = k; frame = p; thread = 0; begin = None; commit = None; locks = 0 }
 
 -- "Reducible: kind 00, frame = number of frames, thread 00, FFFF twice, locks zero." A violation: the number of its kind, and its values.
 abbrev pub verdict_fields : Verdict → ℕ → Fields
-verdict_fields verdict.Reducible n = bare_fields 0 n
-verdict_fields (verdict.Violated v) n = record {
+verdict_fields (Ok tt) n = bare_fields 0 n
+verdict_fields (Err v) n = record {
   kind = kind_number v.kind;
   frame = v.frame;
   thread = v.thread.0;
@@ -87,16 +79,16 @@ verdict_fields (verdict.Violated v) n = record {
 
 -- "Refusal n: kind 80 hexadecimal plus n, frame = place, the rest as for reducible."
 abbrev pub reply_fields : Reply → ℕ → Fields
-reply_fields (reply.Refused r) n = bare_fields (128 + refusal_number r.reason) r.place
-reply_fields (reply.Judged v) n = verdict_fields v n
+reply_fields (Err r) n = bare_fields (128 + refusal_number r.reason) r.place
+reply_fields (Ok v) n = verdict_fields v n
 
 -- The digits of a place that a line has, its low ones.
 abbrev pub held_place : ℕ → ℕ
 held_place p = p % too_wide place_width
 
-abbrev pub held_mark : LineMark → LineMark
-held_mark (line_marks.At i) = line_marks.At (held_place i)
-held_mark line_marks.Absent = line_marks.Absent
+abbrev pub held_mark : Option ℕ → Option ℕ
+held_mark (Some i) = Some (held_place i)
+held_mark None = None
 
 -- Fields with places that a line holds. Those of the verdicts' replies are so: `RepliesFit` (crate answer).
 abbrev pub held_fields : Fields → Fields
@@ -121,9 +113,9 @@ abbrev pub verdict_line : Reply → ℕ → List ℕ
 verdict_line r n = fields_line (reply_fields r n)
 
 -- A begin or a commit that n digits tell: absent, or a place below the number that stands for absent.
-abbrev pub MarkTold : ℕ → LineMark → Type 0
-MarkTold n (line_marks.At i) = i < absent_in n
-MarkTold n line_marks.Absent = Unit {0}
+abbrev pub MarkTold : ℕ → Option ℕ → Type 0
+MarkTold n (Some i) = i < absent_in n
+MarkTold n None = Unit {0}
 
 -- Fields that their digits tell. (The kind, the thread and the locks of a reply always are so. The places of the verdicts' replies are, too:
 -- `RepliesFit`, crate answer.)

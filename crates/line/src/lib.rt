@@ -6,7 +6,7 @@ ghost use Rattle.std.specs.Prelude.{◌≡◌, ◌++◌, ◌≤◌, length, drop
 ghost use Rattle.line.specs.Line.{place_width, mark_field, line_mark, bare_fields, reply_fields, held_place, held_mark, held_fields, line_length, fields_line, verdict_line};
 
 use frame::refusal_number;
-use reply::{Mark, Reply, Verdict, kind_number};
+use reply::{Reply, kind_number};
 
 // The digits of the fields: of a kind, of a frame, a begin or a commit, of a thread, of the locks.
 pub const KIND_WIDTH: usize = 2;
@@ -41,31 +41,24 @@ const PLACE_END: u64 = 1u64 << (4 * PLACE_WIDTH);
 // The begin or commit that is absent: the highest that its digits hold.
 pub const ABSENT: Place = (PLACE_END - 1) as Place;
 
-// A begin or a commit of a line.
-#[derive(Clone, Copy)]
-pub enum LineMark {
-    At(Place),
-    Absent,
-}
-
 // The fields of a verdict line.
 #[derive(Clone, Copy)]
 pub struct Fields {
     pub kind: u8,
     pub frame: Place,
     pub thread: u8,
-    pub begin: LineMark,
-    pub commit: LineMark,
+    pub begin: Option<Place>,
+    pub commit: Option<Place>,
     pub locks: u64,
 }
 
 // The number of a begin or a commit.
-pub fn mark_field(m: LineMark) -> Place
+pub fn mark_field(m: Option<Place>) -> Place
     ensures { result ≡ mark_field place_width m }
 {
     match m {
-        LineMark::At(i) => i,
-        LineMark::Absent => ABSENT,
+        Some(i) => i,
+        None => ABSENT,
     }
 }
 
@@ -77,12 +70,12 @@ fn held_place(p: u32) -> Place
 }
 
 // The begin or the commit of a violation, in a line.
-fn line_mark(m: Mark) -> LineMark
+fn line_mark(m: Option<u32>) -> Option<Place>
     ensures { result ≡ held_mark (line_mark m) }
 {
     match m {
-        Mark::At(i) => LineMark::At(held_place(i)),
-        Mark::Absent => LineMark::Absent,
+        Some(i) => Some(held_place(i)),
+        None => None,
     }
 }
 
@@ -94,8 +87,8 @@ fn bare_fields(kind: u8, frame: u32) -> Fields
         kind: kind,
         frame: held_place(frame),
         thread: 0,
-        begin: LineMark::Absent,
-        commit: LineMark::Absent,
+        begin: None,
+        commit: None,
         locks: 0,
     }
 }
@@ -105,13 +98,13 @@ pub fn reply_fields(r: Reply, frames: u32) -> Fields
     ensures { result ≡ held_fields (reply_fields r frames) }
 {
     match r {
-        Reply::Refused(x) => {
+        Err(x) => {
             let reason = x.reason;
             bare_fields(128 + refusal_number(reason), x.place)
         }
-        Reply::Judged(v) => match v {
-            Verdict::Reducible => bare_fields(0, frames),
-            Verdict::Violated(w) => {
+        Ok(v) => match v {
+            Ok(()) => bare_fields(0, frames),
+            Err(w) => {
                 let kind = w.kind;
                 let begin = w.begin;
                 let commit = w.commit;

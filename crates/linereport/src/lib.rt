@@ -9,8 +9,6 @@ ghost use Rattle.output.specs.Output.{behind, written};
 ghost use Rattle.linereport.specs.LineReport.{source_by, source_of, other_text, kept_text, line_report};
 
 use explain::explain;
-use fields::FieldsReply;
-use kept::Kept;
 use line::Fields;
 use output::{put_decimal, put_text};
 use phrase::Source;
@@ -38,11 +36,11 @@ fn source_of(r: Reply) -> Source
     ensures { result ≡ source_of r }
 {
     match r {
-        Reply::Refused(x) => {
+        Err(x) => {
             let reason = x.reason;
             source_by(frame::refusal_number(reason))
         }
-        Reply::Judged(v) => Source::Recording,
+        Ok(v) => Source::Recording,
     }
 }
 
@@ -65,11 +63,11 @@ fn put_kept(out: &mut [u8], f: Fields, words: &[u32]) -> usize
 {
     let k = kept::reply_of(f);
     match k {
-        Kept::Reply(r) => {
+        Ok(r) => {
             let s = source_of(r);
             explain(out, 0, s, words, r, f.frame as u32)
         }
-        Kept::Other(n) => put_other(out, n as u64, f.frame as u64),
+        Err(n) => put_other(out, n as u64, f.frame as u64),
     }
 }
 
@@ -80,7 +78,7 @@ pub fn line_report(line: &[u8], words: &[u32], out: &mut [u8]) -> usize
 {
     let q = fields::read_fields(line);
     match q {
-        FieldsReply::Read(f) => put_kept(out, f, words),
-        FieldsReply::Refused(x) => explain_refusal(out, 0, Source::Text, words, x),
+        Ok(f) => put_kept(out, f, words),
+        Err(x) => explain_refusal(out, 0, Source::Text, words, x),
     }
 }

@@ -1,4 +1,5 @@
 -- Where the loop of `find` stands, and the ways that its turn can go.
+use Rattle.std.specs.Prelude.{Ok}
 use Prim.Native.Nat.{ℕ, ◌+◌, ◌≤◌, ◌<◌, ◌/◌, ◌%◌}
 use mathlib.Core.Path.{◌≡◌, refl, sym, ap, ◌∙◌, subst}
 use mathlib.Core.Bool.{Bool, true, false}
@@ -9,15 +10,13 @@ use lib.Dec.{eqb}
 use lib.ListN.{length}
 use Rattle.frame.proofs.Laws.{shown}
 use Rattle.frame.specs.Frame.{decode_word}
-use Rattle.frame.specs.declared.Decoded.TheVariants as decoded
 use Rattle.soundness.specs.Soundness.{check_reply}
-use Rattle.soundness.specs.declared.CheckReply.TheVariants as check
 use Rattle.exchange.proofs.Frames.{sound_decodes}
 use Rattle.exchange.specs.Exchange.{frame_of}
 use Rattle.matching.specs.Places.{thread_of, word_at, FoundIn}
 
 -- the thread is the word's second byte
-thread_byte : (w : ℕ) → decode_word w ≡ decoded.Frame (frame_of w) → thread_of w ≡ w / 65536 % 256
+thread_byte : (w : ℕ) → decode_word w ≡ Ok (frame_of w) → thread_of w ≡ w / 65536 % 256
 thread_byte w e = ap (λ f. f.thread.0) (shown (w / 16777216) (w / 65536 % 256) (w % 65536) (frame_of w) e).frame
 
 pub record Passing (ws : List ℕ) (t from i : ℕ) : Type 0 where
@@ -25,7 +24,7 @@ pub record Passing (ws : List ℕ) (t from i : ℕ) : Type 0 where
   pub within : i ≤ length ws
   pub passed : (k : ℕ) → from ≤ k → k < i → thread_of (word_at ws k) ≡ t → ⊥
 
-module _ {ws : List ℕ} {t from i : ℕ} (s : check_reply ws ≡ check.Sound) (p : Passing ws t from i) where
+module _ {ws : List ℕ} {t from i : ℕ} (s : check_reply ws ≡ (Ok tt)) (p : Passing ws t from i) where
   pub passing_more : i < length ws → (word_at ws i / 65536 % 256 ≡ t → ⊥) → Passing ws t from (i + 1)
   passing_more h n = record { onward = omega (arith, p.onward); within = omega arith; passed = λ k a b. go k a b (eqb k i) refl }
     where

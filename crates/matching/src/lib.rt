@@ -5,7 +5,6 @@
 ghost use Rattle.std.specs.Prelude.{◌≡◌, ◌≤◌, ◌<◌, max, ltb, length, get_or, set};
 ghost use Rattle.frame.specs.Frame.{ObjectInRange};
 ghost use Rattle.soundness.specs.Soundness.{check_reply};
-ghost use Rattle.soundness.specs.declared.CheckReply.TheVariants as check;
 ghost use Rattle.matching.specs.Places.{Stored, raised_to, lasts_of, Noted, FoundIn};
 
 use frame::{Action, LOCKS, Thread, VARIABLES};
@@ -74,7 +73,7 @@ pub fn note_last(
 
 // The first place, `from` or later, of a frame of thread t; the length if there is none.
 pub fn find(words: &[u32], from: usize, t: Thread) -> usize
-    requires fact_1 { check_reply words.now ≡ check.Sound }
+    requires fact_1 { check_reply words.now ≡ (Ok tt) }
     requires fact_2 { from ≤ length words.now }
     ensures { FoundIn words.now t.0 from result }
 {

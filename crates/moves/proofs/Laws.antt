@@ -1,4 +1,5 @@
 -- What the walk writes of a reducible, closed recording are its displacements.
+use Rattle.std.specs.Prelude.{Ok}
 use Prim.Native.Nat.{ℕ, ◌≤◌}
 use mathlib.Core.Path.{◌≡◌, ap, ◌∙◌}
 use mathlib.Core.Bool.{true}
@@ -7,7 +8,6 @@ use native.Mathlib.Omega.{arith}
 use lib.IntN.{ℤ}
 use lib.ListN.{length, drop}
 use Rattle.frame.specs.Limits.{most_frames}
-use Rattle.reply.specs.declared.Verdict.TheVariants.{Reducible}
 use Rattle.pass.specs.Pass.{full_sets}
 use Rattle.pass.proofs.Judgement.{judgement_fits}
 use Rattle.rules.specs.Choice.{Reducible as ReducibleUnder}
@@ -28,7 +28,7 @@ module _ (guards ws : List ℕ) (r : ReducibleUnder guards ws) (c : Closed ws) w
   walked = walk_is_order guards ws (places ws) (places_length 0 ws) r c
 
   pub walk_short : length (walk_of guards ws (places ws)) ≤ most_frames
-  walk_short = omega (arith, ap length walked, exchanges_length (λ x y. true) ordered, places_length 0 ws, judgement_fits guards full_sets ws Reducible r)
+  walk_short = omega (arith, ap length walked, exchanges_length (λ x y. true) ordered, places_length 0 ws, judgement_fits guards full_sets ws (Ok tt) r)
 
   pub walk_moves : (out : List ℤ) → length ws ≤ length out → moved 0 (walk_of guards ws (places ws)) out ≡ displacements guards ws ++ drop (length ws) out
   unfolding displacements

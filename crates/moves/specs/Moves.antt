@@ -1,15 +1,15 @@
 -- What the calls for displacements answer, and what they leave in the lent list.
 -- Quotes are from docs/FORMAT.md.
-use Rattle.std.specs.Prelude.{ℕ, List, ℤ, length}
+use Rattle.std.specs.Prelude.{ℕ, List, ℤ, length, Result}
 use Rattle.frame.specs.declared.Refusal.TheVariants as refusal
 use Rattle.guards.specs.Guards.{guards_under}
 use Rattle.guards.specs.declared.Judgement.{Judgement}
 use Rattle.order.specs.Order.{reply_by, out_after, reply_under}
-use Rattle.order.specs.declared.OrderReply.{OrderReply}
 use Rattle.displacement.specs.Displacement.{displacements}
+use Rattle.frame.specs.declared.Refused.{Refused}
 
 -- "They can be asked for with declared or inferred guards, and are refused as the serial order is, but for 21 in the place of 15."
-abbrev pub moves_reply : List ℕ → List ℕ → ℕ → OrderReply
+abbrev pub moves_reply : List ℕ → List ℕ → ℕ → Result ℕ Refused
 moves_reply guards ws room = reply_by refusal.MovesBuffer guards ws room
 
 -- "entries past the recording's length are untouched"; a refusal changes no lent buffer.
@@ -17,7 +17,7 @@ unfoldable pub moves_out : List ℕ → List ℕ → List ℤ → List ℤ
 moves_out guards ws out = out_after (moves_reply guards ws (length out)) (displacements guards ws) out
 
 -- The reply and the list under a judgement.
-abbrev pub moves_under : Judgement → List ℕ → List ℕ → ℕ → OrderReply
+abbrev pub moves_under : Judgement → List ℕ → List ℕ → ℕ → Result ℕ Refused
 moves_under j list ws room = reply_under refusal.MovesBuffer j list ws room
 
 unfoldable pub moves_out_under : Judgement → List ℕ → List ℕ → List ℤ → List ℤ

@@ -1,4 +1,5 @@
 -- What the calls for the serial order answer and leave, step by step.
+use Rattle.std.specs.Prelude.{Result, Ok, Err, Option, Some, None}
 use Prim.Native.Nat.{ℕ, ◌≤◌, ◌<◌}
 use mathlib.Core.Path.{◌≡◌, refl, sym, ap, ◌∙◌}
 use mathlib.Core.Bool.{Bool, true, false, not}
@@ -12,25 +13,18 @@ use Rattle.frame.specs.declared.Refusal.{Refusal}
 use Rattle.frame.specs.declared.Refusal.TheVariants as refusal
 use Rattle.guards.specs.Guards.{guards_under}
 use Rattle.guards.specs.declared.Judgement.{Judgement}
-use Rattle.guards.specs.declared.GuardsReply.{GuardsReply}
-use Rattle.guards.specs.declared.GuardsReply.TheVariants as guards
-use Rattle.reply.specs.Reply.{reducible}
-use Rattle.reply.specs.declared.Mark.{Mark}
-use Rattle.reply.specs.declared.Mark.TheVariants.{At, Absent}
-use Rattle.reply.specs.declared.Reply.{Reply}
-use Rattle.reply.specs.declared.Reply.TheVariants as reply
-use Rattle.reply.specs.declared.Verdict.TheVariants as verdict
+use Rattle.reply.specs.Reply.{reducible, Reply}
 use Rattle.pass.specs.Pass.{full_sets, judgement, open_at_end}
 use Rattle.serial.specs.Order.{Closed}
 use Rattle.orderlaws.proofs.Order.{closed_open}
 use Rattle.order.specs.Order.{reducible_reply, irreducible, closed_reply, reply_by, on_list, reply_under}
-use Rattle.order.specs.declared.OrderReply.TheVariants as order
+use Rattle.frame.specs.declared.Refused.{Refused}
 
 -- a reply that passes the test
 pub passes : (r : Reply) → reducible_reply r ≡ true → r ≡ reducible
-passes (reply.Refused x) z = never (cc)
-passes (reply.Judged verdict.Reducible) z = refl
-passes (reply.Judged (verdict.Violated v)) z = never (cc)
+passes (Err x) z = never (cc)
+passes (Ok (Ok tt)) z = refl
+passes (Ok (Err v)) z = never (cc)
 
 -- a reply that the code's test lets pass
 pub says_reducible : (q r : Reply) (b : Bool) → q ≡ r → b ≡ not (reducible_reply q) → b ≡ false → r ≡ reducible
@@ -47,16 +41,16 @@ module _ (short : Refusal) (table ws : List ℕ) (room : ℕ) where
   not_reducible e = rw e
 
   module _ (e : (judgement table full_sets ws).reply ≡ reducible) where
-    pub still_open : (b : ℕ) → open_at_end (judgement table full_sets ws) ≡ At b → reply_by short table ws room ≡ order.Refused (refused_at refusal.OpenBlock b)
+    pub still_open : (b : ℕ) → open_at_end (judgement table full_sets ws) ≡ Some b → reply_by short table ws room ≡ Err (refused_at refusal.OpenBlock b)
     unfolding reply_by
     still_open b o = rw (o, e)
 
-    module _ (o : open_at_end (judgement table full_sets ws) ≡ Absent) where
-      pub no_room : room < length ws → reply_by short table ws room ≡ order.Refused (refused_at short (length ws))
+    module _ (o : open_at_end (judgement table full_sets ws) ≡ None) where
+      pub no_room : room < length ws → reply_by short table ws room ≡ Err (refused_at short (length ws))
       unfolding reply_by
       no_room h = rw (o, e, lt-ltb room (length ws) h)
 
-      pub is_written : length ws ≤ room → reply_by short table ws room ≡ order.Written (length ws)
+      pub is_written : length ws ≤ room → reply_by short table ws room ≡ Ok (length ws)
       unfolding reply_by
       is_written h = rw (o, e, le-ltb room (length ws) h)
 
@@ -67,31 +61,31 @@ pub record Accepted (table ws : List ℕ) (room n : ℕ) : Type 0 where
   pub fits : length ws ≤ room
   pub count : n ≡ length ws
 
-pub accepted : (short : Refusal) (table ws : List ℕ) (room n : ℕ) → reply_by short table ws room ≡ order.Written n → Accepted table ws room n
+pub accepted : (short : Refusal) (table ws : List ℕ) (room n : ℕ) → reply_by short table ws room ≡ Ok n → Accepted table ws room n
 unfolding reply_by
 accepted short table ws room n e = by_test (reducible_reply (judgement table full_sets ws).reply)
     (λ b. let r = passes (judgement table full_sets ws).reply b in
     ended r (open_at_end (judgement table full_sets ws)) refl (ltb room (length ws)) refl (rw b at e))
     (λ b. absurd (refused (judgement table full_sets ws).reply b (rw b at e)))
   where
-    refused : (r : Reply) → reducible_reply r ≡ false → irreducible r ≡ order.Written n → ⊥
-    refused (reply.Refused x) b q = never (cc)
-    refused (reply.Judged verdict.Reducible) b q = never (cc)
-    refused (reply.Judged (verdict.Violated v)) b q = never (cc)
+    refused : (r : Reply) → reducible_reply r ≡ false → irreducible r ≡ Ok n → ⊥
+    refused (Err x) b q = never (cc)
+    refused (Ok (Ok tt)) b q = never (cc)
+    refused (Ok (Err v)) b q = never (cc)
 
-    ended : (judgement table full_sets ws).reply ≡ reducible → (m : Mark) → open_at_end (judgement table full_sets ws) ≡ m → (t : Bool) → ltb room (length ws) ≡ t
-        → closed_reply short m (length ws) room ≡ order.Written n → Accepted table ws room n
-    ended r (At b) o t l q = never (cc)
-    ended r Absent o true l q = let z : order.Refused (refused_at short (length ws)) ≡ order.Written n = rw l at q in never (cc)
-    ended r Absent o false l q =
-        let z : order.Written (length ws) ≡ order.Written n = rw l at q in
+    ended : (judgement table full_sets ws).reply ≡ reducible → (m : Option ℕ) → open_at_end (judgement table full_sets ws) ≡ m → (t : Bool) → ltb room (length ws) ≡ t
+        → closed_reply short m (length ws) room ≡ Ok n → Accepted table ws room n
+    ended r (Some b) o t l q = never (cc)
+    ended r None o true l q = let z : ◌≡◌ {A = Result ℕ Refused} (Err (refused_at short (length ws))) (Ok n) = rw l at q in never (cc)
+    ended r None o false l q =
+        let z : ◌≡◌ {A = Result ℕ Refused} (Ok (length ws)) (Ok n) = rw l at q in
         record { reducibly = r; closed = closed_open table ws r o; fits = ltb-false room (length ws) l; count = cc }
 
-pub accepted_under : (short : Refusal) (j : Judgement) (list ws : List ℕ) (room n : ℕ) → reply_under short j list ws room ≡ order.Written n
+pub accepted_under : (short : Refusal) (j : Judgement) (list ws : List ℕ) (room n : ℕ) → reply_under short j list ws room ≡ Ok n
     → Accepted (guards_under j list).table ws room n
 unfolding reply_under
 accepted_under short j list ws room n e = go (guards_under j list).reply e
   where
-    go : (q : GuardsReply) → on_list q (reply_by short (guards_under j list).table ws room) ≡ order.Written n → Accepted (guards_under j list).table ws room n
-    go (guards.Lines m) t = accepted short (guards_under j list).table ws room n t
-    go (guards.Refused x) t = never (cc)
+    go : (q : Result ℕ Refused) → on_list q (reply_by short (guards_under j list).table ws room) ≡ Ok n → Accepted (guards_under j list).table ws room n
+    go (Ok m) t = accepted short (guards_under j list).table ws room n t
+    go (Err x) t = never (cc)

@@ -1,73 +1,66 @@
 -- What the calls for the serial order answer, and what they leave in the lent output.
 -- Quotes are from docs/FORMAT.md.
-use Rattle.std.specs.Prelude.{ℕ, Bool, true, false, cond, List, ◌++◌, ltb, length, drop}
+use Rattle.std.specs.Prelude.{ℕ, Bool, true, false, cond, List, ◌++◌, ltb, length, drop, Result, Ok, Err, Option, Some, None}
 use Rattle.frame.specs.Refusal.{refused_at}
 use Rattle.frame.specs.declared.Refusal.{Refusal}
 use Rattle.frame.specs.declared.Refusal.TheVariants as refusal
 use Rattle.guards.specs.Guards.{guards_under}
 use Rattle.guards.specs.declared.Judgement.{Judgement}
-use Rattle.guards.specs.declared.GuardsReply.{GuardsReply}
-use Rattle.guards.specs.declared.GuardsReply.TheVariants as guards
-use Rattle.reply.specs.declared.Mark.{Mark}
-use Rattle.reply.specs.declared.Mark.TheVariants.{At, Absent}
-use Rattle.reply.specs.declared.Reply.{Reply}
-use Rattle.reply.specs.declared.Reply.TheVariants as reply
-use Rattle.reply.specs.declared.Verdict.TheVariants as verdict
+use Rattle.reply.specs.Reply.{Reply}
 use Rattle.pass.specs.Pass.{full_sets, judgement, open_at_end}
 use Rattle.serial.specs.Order.{serial_words}
-use Rattle.order.specs.declared.OrderReply.{OrderReply}
-use Rattle.order.specs.declared.OrderReply.TheVariants as order
+use Rattle.frame.specs.declared.Refused.{Refused}
 
 abbrev pub reducible_reply : Reply → Bool
-reducible_reply (reply.Refused x) = false
-reducible_reply (reply.Judged verdict.Reducible) = true
-reducible_reply (reply.Judged (verdict.Violated v)) = false
+reducible_reply (Err x) = false
+reducible_reply (Ok (Ok tt)) = true
+reducible_reply (Ok (Err v)) = false
 
 -- "13: not reducible; violating frame", after every refusal of the recording. (A reducible recording is asked of none.)
-abbrev pub irreducible : Reply → OrderReply
-irreducible (reply.Refused x) = order.Refused x
-irreducible (reply.Judged verdict.Reducible) = order.Written 0
-irreducible (reply.Judged (verdict.Violated v)) = order.Refused (refused_at refusal.Irreducible v.frame)
+abbrev pub irreducible : Reply → Result ℕ Refused
+irreducible (Err x) = Err x
+irreducible (Ok (Ok tt)) = Ok 0
+irreducible (Ok (Err v)) = Err (refused_at refusal.Irreducible v.frame)
 
 -- "14: a block still open at the end; smallest place of an open outermost begin", then `short`, the refusal of a lent buffer that is shorter
 -- than the recording, with its length. n is the recording's length, room the buffer's. "the reply is that length"
-abbrev pub closed_reply : Refusal → Mark → ℕ → ℕ → OrderReply
-closed_reply short (At b) n room = order.Refused (refused_at refusal.OpenBlock b)
-closed_reply short Absent n room = cond (ltb room n) (order.Refused (refused_at short n)) (order.Written n)
+abbrev pub closed_reply : Refusal → Option ℕ → ℕ → ℕ → Result ℕ Refused
+closed_reply short (Some b) n room = Err (refused_at refusal.OpenBlock b)
+closed_reply short None n room = cond (ltb room n) (Err (refused_at short n)) (Ok n)
 
 -- The reply under a table of guards: the recording's refusals, 13, 14, `short`, or the length.
-unfoldable pub reply_by : Refusal → List ℕ → List ℕ → ℕ → OrderReply
+unfoldable pub reply_by : Refusal → List ℕ → List ℕ → ℕ → Result ℕ Refused
 reply_by short guards ws room =
     cond (reducible_reply (judgement guards full_sets ws).reply) (closed_reply short (open_at_end (judgement guards full_sets ws)) (length ws) room)
     (irreducible (judgement guards full_sets ws).reply)
 
 -- "15: output shorter than the recording; its length"
-abbrev pub order_reply : List ℕ → List ℕ → ℕ → OrderReply
+abbrev pub order_reply : List ℕ → List ℕ → ℕ → Result ℕ Refused
 order_reply guards ws room = reply_by refusal.OutputBuffer guards ws room
 
 -- "Each unit's frames are written from the place where the last unit stopped; words beyond the recording's length stay unchanged"; a refusal
 -- changes no lent buffer. Over any element type: what is written has an element for each frame.
-abbrev pub out_after : {A : Type 0} → OrderReply → List A → List A → List A
-out_after (order.Refused x) xs out = out
-out_after (order.Written n) xs out = xs ++ drop n out
+abbrev pub out_after : {A : Type 0} → Result ℕ Refused → List A → List A → List A
+out_after (Err x) xs out = out
+out_after (Ok n) xs out = xs ++ drop n out
 
 unfoldable pub order_out : List ℕ → List ℕ → List ℕ → List ℕ
 order_out guards ws out = out_after (order_reply guards ws (length out)) (serial_words guards ws) out
 
 -- "A guard list is checked before the recording."
-abbrev pub list_refused : GuardsReply → OrderReply
-list_refused (guards.Lines n) = order.Written 0
-list_refused (guards.Refused x) = order.Refused x
+abbrev pub list_refused : Result ℕ Refused → Result ℕ Refused
+list_refused (Ok n) = Ok 0
+list_refused (Err x) = Err x
 
-abbrev pub on_list : GuardsReply → OrderReply → OrderReply
-on_list (guards.Lines n) r = r
-on_list (guards.Refused x) r = order.Refused x
+abbrev pub on_list : Result ℕ Refused → Result ℕ Refused → Result ℕ Refused
+on_list (Ok n) r = r
+on_list (Err x) r = Err x
 
 -- "The order can be asked for with declared or inferred guards": the reply and the output under a judgement.
-unfoldable pub reply_under : Refusal → Judgement → List ℕ → List ℕ → ℕ → OrderReply
+unfoldable pub reply_under : Refusal → Judgement → List ℕ → List ℕ → ℕ → Result ℕ Refused
 reply_under short j list ws room = on_list (guards_under j list).reply (reply_by short (guards_under j list).table ws room)
 
-abbrev pub order_under : Judgement → List ℕ → List ℕ → ℕ → OrderReply
+abbrev pub order_under : Judgement → List ℕ → List ℕ → ℕ → Result ℕ Refused
 order_under j list ws room = reply_under refusal.OutputBuffer j list ws room
 
 unfoldable pub out_under : Judgement → List ℕ → List ℕ → List ℕ → List ℕ

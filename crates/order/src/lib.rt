@@ -6,28 +6,21 @@ ghost use Rattle.std.specs.Prelude.{◌≡◌, not, length};
 ghost use Rattle.order.specs.Order.{reducible_reply, irreducible, list_refused, reply_by, order_reply, order_out, order_under, out_under};
 
 use frame::{ALL_LOCKS, Refusal, Refused, VARIABLES};
-use guards::{GuardsReply, Judgement};
-use reply::{Mark, Reply, Verdict};
-use soundness::CheckReply;
-
-#[derive(Clone, Copy)]
-pub enum OrderReply {
-    Written(u32),
-    Refused(Refused),
-}
+use guards::Judgement;
+use reply::Reply;
 
 // The refusal of a recording that is refused or not reducible.
-fn refusal(r: Reply) -> OrderReply
+fn refusal(r: Reply) -> Result<u32, Refused>
     ensures { result ≡ irreducible r }
 {
     match r {
-        Reply::Refused(x) => OrderReply::Refused(x),
-        Reply::Judged(v) => match v {
-            Verdict::Violated(w) => OrderReply::Refused(Refused {
+        Err(x) => Err(x),
+        Ok(v) => match v {
+            Err(w) => Err(Refused {
                 reason: Refusal::Irreducible,
                 place: w.frame,
             }),
-            Verdict::Reducible => OrderReply::Written(0),
+            Ok(()) => Ok(0),
         },
     }
 }
@@ -36,17 +29,22 @@ fn is_irreducible(r: Reply) -> bool
     ensures { result ≡ not (reducible_reply r) }
 {
     match r {
-        Reply::Refused(_) => true,
-        Reply::Judged(v) => match v {
-            Verdict::Violated(_) => true,
-            Verdict::Reducible => false,
+        Err(_) => true,
+        Ok(v) => match v {
+            Err(_) => true,
+            Ok(()) => false,
         },
     }
 }
 
 // What a request on a recording under a table of guards is answered, with what it writes left out: a lent buffer has room elements, and is
 // refused by short where these are fewer than the frames.
-pub fn check(words: &[u32], guards: &[u8; VARIABLES], room: usize, short: Refusal) -> OrderReply
+pub fn check(
+    words: &[u32],
+    guards: &[u8; VARIABLES],
+    room: usize,
+    short: Refusal,
+) -> Result<u32, Refused>
     ensures { result ≡ reply_by short guards.now words.now room }
 {
     let mut sets = [ALL_LOCKS; VARIABLES];
@@ -56,56 +54,56 @@ pub fn check(words: &[u32], guards: &[u8; VARIABLES], room: usize, short: Refusa
         return refusal(r);
     }
     let unclosed = p.unclosed;
-    if let Mark::At(b) = unclosed {
-        return OrderReply::Refused(Refused {
+    if let Some(b) = unclosed {
+        return Err(Refused {
             reason: Refusal::OpenBlock,
             place: b,
         });
     }
     let n = words.len() as u32;
     if room < words.len() {
-        return OrderReply::Refused(Refused {
+        return Err(Refused {
             reason: short,
             place: n,
         });
     }
-    OrderReply::Written(n)
+    Ok(n)
 }
 
 // The serial order under a table of guards: the checks, and the walk, which writes.
-fn under_guards(words: &[u32], guards: &[u8; VARIABLES], out: &mut [u32]) -> OrderReply
+fn under_guards(words: &[u32], guards: &[u8; VARIABLES], out: &mut [u32]) -> Result<u32, Refused>
     ensures reply { result ≡ order_reply guards.now words.now (length out.old) }
     ensures contents { out.new ≡ order_out guards.now words.now out.old }
 {
     let q = check(words, guards, out.len(), Refusal::OutputBuffer);
-    let OrderReply::Written(_) = q else {
+    let Ok(_) = q else {
         return q;
     };
     let w = walk::write_order(words, guards, out);
     match w {
-        CheckReply::Refused(x) => OrderReply::Refused(x),
-        CheckReply::Sound => q,
+        Err(x) => Err(x),
+        Ok(()) => q,
     }
 }
 
 // The refusal of a guard list.
-pub fn list_refused(q: GuardsReply) -> OrderReply
+pub fn list_refused(q: Result<u32, Refused>) -> Result<u32, Refused>
     ensures { result ≡ list_refused q }
 {
     match q {
-        GuardsReply::Refused(x) => OrderReply::Refused(x),
-        GuardsReply::Lines(_) => OrderReply::Written(0),
+        Err(x) => Err(x),
+        Ok(_) => Ok(0),
     }
 }
 
 // The serial order by a judgement. Where guards are inferred, the list is not read.
-pub fn order(j: Judgement, list: &[u8], words: &[u32], out: &mut [u32]) -> OrderReply
+pub fn order(j: Judgement, list: &[u8], words: &[u32], out: &mut [u32]) -> Result<u32, Refused>
     ensures reply { result ≡ order_under j list.now words.now (length out.old) }
     ensures contents { out.new ≡ out_under j list.now words.now out.old }
 {
     let g = guards::guards_under(j, list);
     let q = g.reply;
-    let GuardsReply::Lines(_) = q else {
+    let Ok(_) = q else {
         return list_refused(q);
     };
     let table = g.table;

@@ -1,5 +1,6 @@
 -- The begin that the code names as the first that is still open is the first that is. In this order: the earliest of the begins of the
 -- threads; the depths after each frame of a pass; at each place, where the open blocks begin; the end.
+use Rattle.std.specs.Prelude.{Ok, Option, Some, None}
 use Prim.Native.Nat.{ℕ, zero, suc, ◌+◌, ◌≤◌, ◌<◌}
 use mathlib.Core.Path.{◌≡◌, refl, sym, ap, ◌∙◌, subst}
 use mathlib.Core.Logic.{◌⊎◌, inl, inr}
@@ -17,13 +18,9 @@ use Rattle.frame.specs.Limits.{thread_count}
 use Rattle.laws.proofs.Logic.{never, from_here, by_test}
 use Rattle.frame.specs.Frame.{decode_word}
 use Rattle.frame.specs.declared.Frame.{Frame}
-use Rattle.frame.specs.declared.Decoded.TheVariants as decoded
 use Rattle.soundness.specs.Soundness.{State, Checked, stepped, step_frame, check_from, start}
-use Rattle.soundness.specs.declared.Outcome.TheVariants as outcome
 use Rattle.soundness.specs.declared.Level.{Level}
 use Rattle.instrumented.specs.Rules.{Judging}
-use Rattle.reply.specs.declared.Mark.{Mark}
-use Rattle.reply.specs.declared.Mark.TheVariants.{At, Absent}
 use Rattle.rules.specs.Choice.{Reducible}
 use Rattle.exchange.proofs.Sound.{goes_on}
 use Rattle.serial.specs.Order.{Closed, depth_after, Open, FirstOpen}
@@ -33,44 +30,44 @@ use Rattle.orderlaws.proofs.Recording.{Pass, end, on, start_long, start_view, de
 use Rattle.orderlaws.proofs.Order.{reducible_pass, end_depth, last_of, open_last}
 
 -- the earlier of two places is one of them, and not behind either
-earlier_one : (x y : Mark) (b : ℕ) → earlier x y ≡ At b → (x ≡ At b) ⊎ (y ≡ At b)
-earlier_one Absent y b e = inr e
-earlier_one (At x) Absent b e = inl e
-earlier_one (At x) (At y) b e = go (ltb y x) e
+earlier_one : (x y : Option ℕ) (b : ℕ) → earlier x y ≡ Some b → (x ≡ Some b) ⊎ (y ≡ Some b)
+earlier_one None y b e = inr e
+earlier_one (Some x) None b e = inl e
+earlier_one (Some x) (Some y) b e = go (ltb y x) e
   where
-    go : (t : Bool) → cond t (At y) (At x) ≡ At b → (At x ≡ At b) ⊎ (At y ≡ At b)
+    go : (t : Bool) → cond t (Some y) (Some x) ≡ Some b → (Some x ≡ Some b) ⊎ (Some y ≡ Some b)
     go true q = inr q
     go false q = inl q
 
 -- A mark at b or before it.
-abbrev By : Mark → ℕ → Type 0
-By m b = (c : ℕ) × (m ≡ At c) × (c ≤ b)
+abbrev By : Option ℕ → ℕ → Type 0
+By m b = (c : ℕ) × (m ≡ Some c) × (c ≤ b)
 
-earlier_left : (x : ℕ) (y : Mark) → By (earlier (At x) y) x
-earlier_left x Absent = (x, refl, omega arith)
-earlier_left x (At y) = by_test (ltb y x) (λ q. (y, rw q, omega (arith, ltb-true y x q))) (λ q. (x, rw q, omega arith))
+earlier_left : (x : ℕ) (y : Option ℕ) → By (earlier (Some x) y) x
+earlier_left x None = (x, refl, omega arith)
+earlier_left x (Some y) = by_test (ltb y x) (λ q. (y, rw q, omega (arith, ltb-true y x q))) (λ q. (x, rw q, omega arith))
 
-earlier_right : (x : Mark) (y : ℕ) → By (earlier x (At y)) y
-earlier_right Absent y = (y, refl, omega arith)
-earlier_right (At x) y = by_test (ltb y x) (λ q. (y, rw q, omega arith)) (λ q. (x, rw q, omega (arith, ltb-false y x q)))
+earlier_right : (x : Option ℕ) (y : ℕ) → By (earlier x (Some y)) y
+earlier_right None y = (y, refl, omega arith)
+earlier_right (Some x) y = by_test (ltb y x) (λ q. (y, rw q, omega arith)) (λ q. (x, rw q, omega (arith, ltb-false y x q)))
 
-open_at : (d b : ℕ) → (d ≡ 0 → ⊥) → open_begin d b ≡ At b
+open_at : (d b : ℕ) → (d ≡ 0 → ⊥) → open_begin d b ≡ Some b
 open_at d b n = rw (ne_eqb d 0 n)
 
-open_is : (d b c : ℕ) → open_begin d b ≡ At c → (d ≡ 0 → ⊥) × (b ≡ c)
-open_is d b c e = by_test (eqb d 0) (λ q. let z : Absent ≡ At c = rw q at e in never (cc)) (λ q. let z : At b ≡ At c = rw q at e in (eqb-false d 0 q, cc))
+open_is : (d b c : ℕ) → open_begin d b ≡ Some c → (d ≡ 0 → ⊥) × (b ≡ c)
+open_is d b c e = by_test (eqb d 0) (λ q. let z : None ≡ Some c = rw q at e in never (cc)) (λ q. let z : Some b ≡ Some c = rw q at e in (eqb-false d 0 q, cc))
 
 -- A thread whose block is open since b.
 abbrev Since : List ℕ → List ℕ → ℕ → Type 0
 Since depths begins b = (t : ℕ) × (get_or depths t 0 ≡ 0 → ⊥) × (get_or begins t 0 ≡ b)
 
 -- The threads k, k + 1, .., of which there are n: b is the mark m or an open begin of one of them, and not behind m or any of these.
-record Earliest (n k : ℕ) (m : Mark) (depths begins : List ℕ) (b : ℕ) : Type 0 where
-  is : (m ≡ At b) ⊎ Since depths begins b
-  of_mark : (x : ℕ) → m ≡ At x → b ≤ x
+record Earliest (n k : ℕ) (m : Option ℕ) (depths begins : List ℕ) (b : ℕ) : Type 0 where
+  is : (m ≡ Some b) ⊎ Since depths begins b
+  of_mark : (x : ℕ) → m ≡ Some x → b ≤ x
   of_threads : (u : ℕ) → k ≤ u → u < k + n → (get_or depths u 0 ≡ 0 → ⊥) → b ≤ get_or begins u 0
 
-earliest_next : (n k : ℕ) (m : Mark) (depths begins : List ℕ) (b : ℕ)
+earliest_next : (n k : ℕ) (m : Option ℕ) (depths begins : List ℕ) (b : ℕ)
     → Earliest n (k + 1) (earlier m (open_begin (get_or depths k 0) (get_or begins k 0))) depths begins b → Earliest (suc n) k m depths begins b
 earliest_next n k m depths begins b ih = record {
   is = found ih.is;
@@ -85,21 +82,21 @@ earliest_next n k m depths begins b ih = record {
     c : ℕ
     c = get_or begins k 0
 
-    one : (m ≡ At b) ⊎ (open_begin d c ≡ At b) → (m ≡ At b) ⊎ Since depths begins b
+    one : (m ≡ Some b) ⊎ (open_begin d c ≡ Some b) → (m ≡ Some b) ⊎ Since depths begins b
     one (inl g) = inl g
     one (inr g) = let q = open_is d c b g in inr (k, q.0, q.1)
 
-    found : (earlier m (open_begin d c) ≡ At b) ⊎ Since depths begins b → (m ≡ At b) ⊎ Since depths begins b
+    found : (earlier m (open_begin d c) ≡ Some b) ⊎ Since depths begins b → (m ≡ Some b) ⊎ Since depths begins b
     found (inr f) = inr f
     found (inl f) = one (earlier_one m (open_begin d c) b f)
 
     by : (x : ℕ) → By (earlier m (open_begin d c)) x → b ≤ x
     by x q = let l = ih.of_mark q.0 q.1 in let r = q.2 in omega arith
 
-earliest : (n k : ℕ) (m : Mark) (depths begins : List ℕ) (b : ℕ) → first_open_from n k m depths begins ≡ At b → Earliest n k m depths begins b
+earliest : (n k : ℕ) (m : Option ℕ) (depths begins : List ℕ) (b : ℕ) → first_open_from n k m depths begins ≡ Some b → Earliest n k m depths begins b
 unfolding first_open_from
 earliest zero k m depths begins b e =
-    record { is = inl e; of_mark = λ x f. let z : At b ≡ At x = sym e ∙ f in let y : b ≡ x = cc in omega arith; of_threads = λ u p q n. absurd (omega arith) }
+    record { is = inl e; of_mark = λ x f. let z : Some b ≡ Some x = sym e ∙ f in let y : b ≡ x = cc in omega arith; of_threads = λ u p q n. absurd (omega arith) }
 earliest (suc n) k m depths begins b e =
     earliest_next n k m depths begins b (earliest n (k + 1) (earlier m (open_begin (get_or depths k 0) (get_or begins k 0))) depths begins b e)
 
@@ -113,8 +110,8 @@ reached_depth all i s h t =
     ap (λ (l : List ℕ). get_or (check_from 0 start l).state.depths t 0) (sym (append-nil (take i all)))
     ∙ ap (λ (x : Checked). get_or x.state.depths t 0) (h [])
 
-pub reached_next : {x : Level} (all : List ℕ) (i w : ℕ) (ws : List ℕ) (s n : State) (f : Frame) → drop i all ≡ w ∷ ws → decode_word w ≡ decoded.Frame f
-    → step_frame f s ≡ stepped (outcome.Next x) n → Reached all i s → Reached all (suc i) n
+pub reached_next : {x : Level} (all : List ℕ) (i w : ℕ) (ws : List ℕ) (s n : State) (f : Frame) → drop i all ≡ w ∷ ws → decode_word w ≡ Ok f
+    → step_frame f s ≡ stepped (Ok x) n → Reached all i s → Reached all (suc i) n
 reached_next all i w ws s n f e d g h r =
     let q = rest_of all i w ws e in
     ap (λ (l : List ℕ). check_from 0 start (l ++ r)) (take-suc all i 0 q.0)
@@ -198,11 +195,11 @@ module _ (guards ws : List ℕ) (r : Reducible guards ws) where
   open_since t ne = let q = at_end t ne in record { within = q.within; raised = q.raised; stays = q.stays }
 
   -- "smallest place of an open outermost begin": what the code finds is it.
-  pub first_open_lem : (b : ℕ) → open_at_end (judgement guards full_sets ws) ≡ At b → FirstOpen ws b
+  pub first_open_lem : (b : ℕ) → open_at_end (judgement guards full_sets ws) ≡ Some b → FirstOpen ws b
   first_open_lem b e = go q.is
     where
-      q : Earliest thread_count 0 Absent (last_of guards ws).state.depths (last_of guards ws).judging.begins b
-      q = earliest thread_count 0 Absent (last_of guards ws).state.depths (last_of guards ws).judging.begins b (sym (open_last guards ws r) ∙ e)
+      q : Earliest thread_count 0 None (last_of guards ws).state.depths (last_of guards ws).judging.begins b
+      q = earliest thread_count 0 None (last_of guards ws).state.depths (last_of guards ws).judging.begins b (sym (open_last guards ws r) ∙ e)
 
       not_closed : (t c : ℕ) → Open ws t c → get_or (last_of guards ws).state.depths t 0 ≡ 0 → ⊥
       not_closed t c o z = open_to_end ws t c o (sym (end_depth guards ws r t) ∙ z)
@@ -219,6 +216,6 @@ module _ (guards ws : List ℕ) (r : Reducible guards ws) where
           let m = one_begin ws t (get_or (last_of guards ws).judging.begins t 0) c (open_since t ne) o in
           omega arith
 
-      go : (Absent ≡ At b) ⊎ Since (last_of guards ws).state.depths (last_of guards ws).judging.begins b → FirstOpen ws b
+      go : (None ≡ Some b) ⊎ Since (last_of guards ws).state.depths (last_of guards ws).judging.begins b → FirstOpen ws b
       go (inl z) = never (cc)
       go (inr t) = record { thread = t.0; is_open = subst (λ (c : ℕ). Open ws t.0 c) t.2 (open_since t.0 t.1); smallest = smallest }

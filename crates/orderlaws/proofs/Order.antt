@@ -1,6 +1,7 @@
 -- The serial order of a reducible, closed recording. In this order: chosen locks change no key; the pass of a reducible recording; exchanges
 -- lead to the order, of words that all decode; in it no other thread's frame is inside a block; the walk is the order; which recordings are
 -- closed.
+use Rattle.std.specs.Prelude.{Result, Ok, Option, Some, None}
 use Prim.Native.Nat.{ℕ, zero, suc, ◌+◌, ◌≤◌, ◌<◌}
 use mathlib.Core.Path.{◌≡◌, refl, sym, ap, ◌∙◌, subst}
 use mathlib.Core.Bool.{Bool, true, false, cond}
@@ -14,10 +15,6 @@ use Rattle.frame.specs.Limits.{thread_count}
 use Rattle.laws.proofs.Logic.{never, either, from_here, by_test}
 use Rattle.frame.specs.declared.Frame.{Frame}
 use Rattle.frame.specs.declared.Action.{Action}
-use Rattle.frame.specs.declared.Decoded.{Decoded}
-use Rattle.reply.specs.declared.Mark.{Mark}
-use Rattle.reply.specs.declared.Mark.TheVariants.{At, Absent}
-use Rattle.reply.specs.declared.Verdict.TheVariants as verdict
 use Rattle.soundness.specs.Soundness.{State, check_from, start, nest}
 use Rattle.soundness.specs.declared.Level.{Level}
 use Rattle.operation.specs.Operation.{operation_of}
@@ -41,6 +38,7 @@ use Rattle.reduction.proofs.Alike.{Alike, alike_same, alike_inferred, serial_ord
 use Rattle.orderlaws.proofs.View.{Declared}
 use Rattle.orderlaws.proofs.Recording.{Pass, pass_made, start_long, start_view, pass_good, commits_keys, order_by_lem, pass_depth, pass_end, pass_end_long}
 use Rattle.orderlaws.proofs.Walk.{pass_walk}
+use Rattle.frame.specs.declared.Refusal.{Refusal}
 
 -- an operation under the chosen locks does the same to locks, depths and commits, and is under no inferred guard
 alike_chosen : (locks : List ℕ) (o : Operation) → Alike o (chosen locks o)
@@ -73,7 +71,7 @@ module _ (guards locks : List ℕ) (c : Choice locks) where
 pub reducible_pass : (guards ws : List ℕ) → Reducible guards ws → Pass guards 0 start (start_judging full_sets) ws
 reducible_pass guards ws r =
     pass_made guards 0 start (start_judging full_sets) ws
-    (sym (ap (λ (x : Ended). x.reply) (judgement_pass guards full_sets ws (judgement_sound guards full_sets ws verdict.Reducible r))) ∙ r) start_long
+    (sym (ap (λ (x : Ended). x.reply) (judgement_pass guards full_sets ws (judgement_sound guards full_sets ws (Ok tt) r))) ∙ r) start_long
 
 -- where all blocks are closed, they are over frames
 closed_frames : (guards ws : List ℕ) → Reducible guards ws → Closed ws → run.Closed (frames_of ws)
@@ -98,7 +96,7 @@ from_decode zero c ks xs a = tt
 from_decode (suc n) c ks xs a = both_decode (unit_at c ks xs) (units_from n (c + 1) ks xs) (at_decode c ks xs a) (from_decode n (c + 1) ks xs a)
 
 reducible_decode : (guards ws : List ℕ) → Reducible guards ws → AllDecode ws
-reducible_decode guards ws r = sound_all_decode ws (judgement_sound guards full_sets ws verdict.Reducible r)
+reducible_decode guards ws r = sound_all_decode ws (judgement_sound guards full_sets ws (Ok tt) r)
 
 order_decode : (guards ws : List ℕ) → Reducible guards ws → AllDecode (serial_words guards ws)
 order_decode guards ws r = from_decode (length ws) 0 (commits guards ws) ws (reducible_decode guards ws r)
@@ -151,7 +149,7 @@ order_length guards ws r c = sym (exchanges_length independent_words (order_exch
 serial_contiguous : (d e : ℕ → ℕ) (ws : List ℕ) → AllDecode ws → ((u : ℕ) → d u ≡ e u) → Serial d (frames_of ws) → Contiguous e ws
 unfolding Contiguous
 serial_contiguous d e [] a h s = tt
-serial_contiguous d e (w ∷ ws) a h s = subst (λ (x : Decoded). contiguous_at x e (λ z. Contiguous z ws)) (sym a.0) (
+serial_contiguous d e (w ∷ ws) a h s = subst (λ (x : Result Frame Refusal). contiguous_at x e (λ z. Contiguous z ws)) (sym a.0) (
   λ u ne. sym (h u) ∙ s.0 u ne,
   serial_contiguous (put d t (nest (d t) (frame_of w).action)) (λ u. cond (eqb u t) (nest (e u) (frame_of w).action) (e u)) ws a.1
       (λ u. by_test (eqb u t)
@@ -199,20 +197,20 @@ commit_place_lem guards ws r c p h =
     (commits_own guards (frames_of ws) (closed_frames guards ws r c) p (omega (arith, length-map ws frame_of)))
 
 -- the earlier of two places is absent where both are, and an open begin where no block is open
-earlier_absent : (x y : Mark) → earlier x y ≡ Absent → (x ≡ Absent) × (y ≡ Absent)
-earlier_absent Absent y e = (refl, e)
-earlier_absent (At x) Absent e = never (cc)
-earlier_absent (At x) (At y) e = go (ltb y x) e
+earlier_absent : (x y : Option ℕ) → earlier x y ≡ None → (x ≡ None) × (y ≡ None)
+earlier_absent None y e = (refl, e)
+earlier_absent (Some x) None e = never (cc)
+earlier_absent (Some x) (Some y) e = go (ltb y x) e
   where
-    go : (b : Bool) → cond b (At y) (At x) ≡ Absent → (At x ≡ Absent) × (At y ≡ Absent)
+    go : (b : Bool) → cond b (Some y) (Some x) ≡ None → (Some x ≡ None) × (Some y ≡ None)
     go true q = never (cc)
     go false q = never (cc)
 
-open_absent : (d b : ℕ) → open_begin d b ≡ Absent → d ≡ 0
-open_absent d b e = by_test (eqb d 0) (λ q. eqb-true d 0 q) (λ q. let y : At b ≡ Absent = rw q at e in never (cc))
+open_absent : (d b : ℕ) → open_begin d b ≡ None → d ≡ 0
+open_absent d b e = by_test (eqb d 0) (λ q. eqb-true d 0 q) (λ q. let y : Some b ≡ None = rw q at e in never (cc))
 
-none_open : (n k : ℕ) (m : Mark) (depths begins : List ℕ) → first_open_from n k m depths begins ≡ Absent
-    → (m ≡ Absent) × ((u : ℕ) → k ≤ u → u < k + n → get_or depths u 0 ≡ 0)
+none_open : (n k : ℕ) (m : Option ℕ) (depths begins : List ℕ) → first_open_from n k m depths begins ≡ None
+    → (m ≡ None) × ((u : ℕ) → k ≤ u → u < k + n → get_or depths u 0 ≡ 0)
 unfolding first_open_from
 none_open zero k m depths begins e = (e, λ u p q. absurd (omega arith))
 none_open (suc n) k m depths begins e =
@@ -233,11 +231,11 @@ module _ (guards ws : List ℕ) (r : Reducible guards ws) where
 
   pub open_last : open_at_end (judgement guards full_sets ws) ≡ first_open (last_of guards ws).state (last_of guards ws).judging
   open_last =
-      let p = judgement_pass guards full_sets ws (judgement_sound guards full_sets ws verdict.Reducible r) in
+      let p = judgement_pass guards full_sets ws (judgement_sound guards full_sets ws (Ok tt) r) in
       ap open_at_end p ∙ rw (sym (ap (λ (x : Ended). x.reply) p) ∙ r)
 
-  pub closed_open : open_at_end (judgement guards full_sets ws) ≡ Absent → Closed ws
+  pub closed_open : open_at_end (judgement guards full_sets ws) ≡ None → Closed ws
   closed_open e t = by_test (ltb t thread_count)
-      (λ q. sym (end_depth t) ∙ (none_open thread_count 0 Absent (last_of guards ws).state.depths (last_of guards ws).judging.begins (sym open_last ∙ e)).1 t (omega arith) (omega (arith, ltb-true t thread_count q)))
+      (λ q. sym (end_depth t) ∙ (none_open thread_count 0 None (last_of guards ws).state.depths (last_of guards ws).judging.begins (sym open_last ∙ e)).1 t (omega arith) (omega (arith, ltb-true t thread_count q)))
       (λ q. let l : length (check_from 0 start ws).state.depths ≡ thread_count = pass_end_long guards (reducible_pass guards ws r) start_long in
       get_or-eq_default (check_from 0 start ws).state.depths 0 (omega (arith, ltb-false t thread_count q)))

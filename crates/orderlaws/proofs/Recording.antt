@@ -1,5 +1,6 @@
 -- A recording that the pass judges reducible, frame by frame: its run, its keys and its units are those of the run that the states stand for.
 -- In this order: the pass; the run does not go wrong; commits and the serial order; depths; units; the end.
+use Rattle.std.specs.Prelude.{Result, Ok}
 use Prim.Native.Nat.{ℕ, zero, suc, pred, ◌+◌, ◌-◌}
 use mathlib.Core.Path.{◌≡◌, refl, sym, ap, ◌∙◌, subst}
 use mathlib.Core.Bool.{Bool, true, false, cond, not, ◌&&◌, ◌||◌}
@@ -17,13 +18,8 @@ use Rattle.frame.specs.Frame.{decode_word}
 use Rattle.frame.specs.declared.Thread.{Thread}
 use Rattle.frame.specs.declared.Frame.{Frame}
 use Rattle.frame.specs.declared.Action.{Action}
-use Rattle.frame.specs.declared.Decoded.TheVariants as decoded
-use Rattle.reply.specs.Reply.{reducible}
-use Rattle.reply.specs.declared.Verdict.{Verdict}
-use Rattle.reply.specs.declared.Verdict.TheVariants as verdict
+use Rattle.reply.specs.Reply.{reducible, Verdict}
 use Rattle.soundness.specs.Soundness.{State, stepped, step_frame, check_from, start, nest}
-use Rattle.soundness.specs.declared.Outcome.{Outcome}
-use Rattle.soundness.specs.declared.Outcome.TheVariants as outcome
 use Rattle.soundness.specs.declared.Level.{Level}
 use Rattle.instrumented.specs.Rules.{outside, before, after, Judging, judged, phase_of}
 use Rattle.operation.specs.Operation.{operation_of}
@@ -37,6 +33,7 @@ use Rattle.reduction.proofs.Sort.{frames, keys, bucket, buckets}
 use Rattle.reduction.proofs.Serial.{order_by, frames_append, depth_next}
 use Rattle.reduction.proofs.Units as units
 use Rattle.orderlaws.proofs.View.{view_of, Long, Declared, OneFrame, run_equal, one_frame}
+use Rattle.frame.specs.declared.Refusal.{Refusal}
 
 abbrev pub point : State → Judging → Point
 point s j = record { state = s; judging = j }
@@ -44,8 +41,8 @@ point s j = record { state = s; judging = j }
 -- A pass that goes on to the end, with what each frame does.
 pub data Pass (guards : List ℕ) : ℕ → State → Judging → List ℕ → Type 0 where
   end : {i : ℕ} {s : State} {j : Judging} → Pass guards i s j []
-  on : {i : ℕ} {s : State} {j : Judging} {w : ℕ} {ws : List ℕ} {f : Frame} {x : Level} {n : State} {k : Judging} → decode_word w ≡ decoded.Frame f
-      → step_frame f s ≡ stepped (outcome.Next x) n → judge_frame guards i f s j ≡ judged verdict.Reducible k
+  on : {i : ℕ} {s : State} {j : Judging} {w : ℕ} {ws : List ℕ} {f : Frame} {x : Level} {n : State} {k : Judging} → decode_word w ≡ Ok f
+      → step_frame f s ≡ stepped (Ok x) n → judge_frame guards i f s j ≡ judged (Ok tt) k
       → OneFrame guards i f s j n k → Pass guards (suc i) n k ws → Pass guards i s j (w ∷ ws)
 
 pub pass_made : (guards : List ℕ) (i : ℕ) (s : State) (j : Judging) (ws : List ℕ) → (judge_from guards i s j ws).reply ≡ reducible → Long s j
@@ -53,9 +50,9 @@ pub pass_made : (guards : List ℕ) (i : ℕ) (s : State) (j : Judging) (ws : Li
 pass_made guards i s j [] e z = end
 pass_made guards i s j (w ∷ ws) e z =
     let g = goes guards i s j w ws e in
-    let p : step_frame g.frame s ≡ stepped (outcome.Next g.level) (step_frame g.frame s).state =
-    ap (λ (x : Outcome). stepped x (step_frame g.frame s).state) g.sound in
-    let q : judge_frame guards i g.frame s j ≡ judged verdict.Reducible (judge_frame guards i g.frame s j).judging =
+    let p : step_frame g.frame s ≡ stepped (Ok g.level) (step_frame g.frame s).state =
+    ap (λ (x : Result Level Refusal). stepped x (step_frame g.frame s).state) g.sound in
+    let q : judge_frame guards i g.frame s j ≡ judged (Ok tt) (judge_frame guards i g.frame s j).judging =
     ap (λ (x : Verdict). judged x (judge_frame guards i g.frame s j).judging) g.right in
     let o = one_frame guards i g.frame s (step_frame g.frame s).state j (judge_frame guards i g.frame s j).judging g.level z (decoded_in_range w g.frame g.is) p q in
     let r : (judge_from guards (i + 1) (step_frame g.frame s).state (judge_frame guards i g.frame s j).judging ws).reply ≡ reducible =
@@ -95,7 +92,7 @@ commit_in_lem d b c x = go (eqb d 0) (eqb c 0) refl
     go false true e = rw e
     go false false e = rw e (less_one c)
 
-pub frames_first : (w : ℕ) (f : Frame) (ws : List ℕ) → decode_word w ≡ decoded.Frame f → frames_of (w ∷ ws) ≡ f ∷ frames_of ws
+pub frames_first : (w : ℕ) (f : Frame) (ws : List ℕ) → decode_word w ≡ Ok f → frames_of (w ∷ ws) ≡ f ∷ frames_of ws
 frames_first w f ws d = rw d
 
 -- the elements of a commit

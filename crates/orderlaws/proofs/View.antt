@@ -1,5 +1,6 @@
 -- The run that a state of the judging pass stands for, and one frame: where the pass goes on, its next state stands for the run's next.
 -- In this order: the run of a state, entries put into it, one operation that does not go wrong, one frame.
+use Rattle.std.specs.Prelude.{Ok, Err}
 use Prim.Native.Nat.{ℕ, suc, ◌+◌, ◌-◌, ◌<◌}
 use mathlib.Core.Path.{◌≡◌, refl, sym, ap, ◌∙◌, fun_ext}
 use mathlib.Core.Bool.{Bool, true, false, cond, ◌&&◌}
@@ -24,9 +25,7 @@ use Rattle.guards.specs.Guards.{guard_of}
 use Rattle.guards.specs.declared.Guard.{Guard}
 use Rattle.guards.specs.declared.Guard.TheVariants as guard
 use Rattle.reply.specs.declared.Violation.{Violation}
-use Rattle.reply.specs.declared.Verdict.TheVariants as verdict
 use Rattle.soundness.specs.Soundness.{State, owner_of, count_of, with_count, with_owner, Stepped, nest, state_of, stepped, step_action, step_frame}
-use Rattle.soundness.specs.declared.Outcome.TheVariants as outcome
 use Rattle.soundness.specs.declared.Level.{Level}
 use Rattle.soundness.proofs.Laws.{spared, Acquired, took, took_again, acquired, Released, freed, let_go, released}
 use Rattle.instrumented.specs.Rules.{outside, before, after, Judging, judging_of, Judged, judged, contains, committed, with_commit, acquire_in, unprotected_in, judge_operation}
@@ -38,6 +37,7 @@ use Rattle.turn.specs.Turn.{judge_frame}
 use Rattle.rules.proofs.Store.{held_is}
 use Rattle.reduction.proofs.Run.{Run, put, level_in, counted, sound, right, afterwards, committing, commit_after, seen}
 use Rattle.reduction.proofs.Steps.{put_cases}
+use Rattle.reply.specs.Reply.{Verdict}
 
 -- The code forgets a commit at the next outermost begin, the run at the outermost end: outside a block the commit counts as none.
 abbrev pub view_of : State → Judging → Run
@@ -111,33 +111,33 @@ view_put s n j k t d c m o h p b q r e = run_equal p b q (λ u. rw (q u, r u) (g
 
 -- which way a test went where the operation does not go wrong
 then_right : (b : Bool) (x y k : Judging) (v : Violation)
-    → cond b (judged verdict.Reducible x) (judged (verdict.Violated v) y) ≡ judged verdict.Reducible k → (b ≡ true) × (k ≡ x)
+    → cond b (judged (Ok tt) x) (judged (Err v) y) ≡ judged (Ok tt) k → (b ≡ true) × (k ≡ x)
 then_right true x y k v e = (refl, sym (ap (λ (x : Judged). x.judging) e))
 then_right false x y k v e =
-    let q : verdict.Violated v ≡ verdict.Reducible = ap (λ (x : Judged). x.verdict) e in never (cc)
+    let q : ◌≡◌ {A = Verdict} (Err v) (Ok tt) = ap (λ (x : Judged). x.verdict) e in never (cc)
 
 else_right : (b : Bool) (x y k : Judging) (v : Violation)
-    → cond b (judged (verdict.Violated v) y) (judged verdict.Reducible x) ≡ judged verdict.Reducible k → (b ≡ false) × (k ≡ x)
+    → cond b (judged (Err v) y) (judged (Ok tt) x) ≡ judged (Ok tt) k → (b ≡ false) × (k ≡ x)
 else_right true x y k v e =
-    let q : verdict.Violated v ≡ verdict.Reducible = ap (λ (x : Judged). x.verdict) e in never (cc)
+    let q : ◌≡◌ {A = Verdict} (Err v) (Ok tt) = ap (λ (x : Judged). x.verdict) e in never (cc)
 else_right false x y k v e = (refl, sym (ap (λ (x : Judged). x.judging) e))
 
 -- an acquire and an unprotected access do not go wrong outside and before commit
 acquire_right : (b c i : ℕ) (t : Thread) (l : Lock) (j k : Judging) (p q : Bool) → eqb c 0 ≡ q
-    → acquire_in (cond p outside (cond q (before b) (after b (c - 1)))) i t l j ≡ judged verdict.Reducible k
+    → acquire_in (cond p outside (cond q (before b) (after b (c - 1)))) i t l j ≡ judged (Ok tt) k
     → (eqb (cond p 0 c) 0 ≡ true) × (k ≡ j)
 acquire_right b c i t l j k true q f e = (refl, sym (ap (λ (x : Judged). x.judging) e))
 acquire_right b c i t l j k false true f e = (f, sym (ap (λ (x : Judged). x.judging) e))
 acquire_right b c i t l j k false false f e =
-    let z : (acquire_in (after b (c - 1)) i t l j).verdict ≡ verdict.Reducible = ap (λ (x : Judged). x.verdict) e in never (cc)
+    let z : (acquire_in (after b (c - 1)) i t l j).verdict ≡ (Ok tt) = ap (λ (x : Judged). x.verdict) e in never (cc)
 
 unprotected_right : (b c i : ℕ) (t : Thread) (n j k : Judging) (p q : Bool) → eqb c 0 ≡ q
-    → unprotected_in (cond p outside (cond q (before b) (after b (c - 1)))) i t n j ≡ judged verdict.Reducible k
+    → unprotected_in (cond p outside (cond q (before b) (after b (c - 1)))) i t n j ≡ judged (Ok tt) k
     → (eqb (cond p 0 c) 0 ≡ true) × (k ≡ n)
 unprotected_right b c i t n j k true q f e = (refl, sym (ap (λ (x : Judged). x.judging) e))
 unprotected_right b c i t n j k false true f e = (f, sym (ap (λ (x : Judged). x.judging) e))
 unprotected_right b c i t n j k false false f e =
-    let z : (unprotected_in (after b (c - 1)) i t n j).verdict ≡ verdict.Reducible = ap (λ (x : Judged). x.verdict) e in never (cc)
+    let z : (unprotected_in (after b (c - 1)) i t n j).verdict ≡ (Ok tt) = ap (λ (x : Judged). x.verdict) e in never (cc)
 
 -- a thread's commit after an operation that is no begin and no end
 commit_view : (d c i : ℕ) (k : Operation)
@@ -266,7 +266,7 @@ module _ (s : State) (j : Judging) (z : Long s j) (i : ℕ) (t : Thread) (small 
   same_view v = view_put s s j j t.0 deep done _ _ _ (λ x. refl) (λ x. refl) same_depth same_commit (commit_view deep done i (Inferred v))
 
   one_access : (g : Guard) (v : Variable) (k : Judging)
-      → judge_operation i t deep (held_set t.0 s.owners) (guarded_access g v) j ≡ judged verdict.Reducible k
+      → judge_operation i t deep (held_set t.0 s.owners) (guarded_access g v) j ≡ judged (Ok tt) k
       → One i t.0 deep (view_of s j).count (guarded_access g v) s j s k
   unfolding judge_operation
   one_access (guard.Locked m) v k e =
@@ -299,7 +299,7 @@ module _ (s : State) (j : Judging) (z : Long s j) (i : ℕ) (t : Thread) (small 
       }
 
   -- a begin, outermost and nested
-  one_begin : leb deepest deep ≡ false → (k : Judging) → judge_operation i t deep (held_set t.0 s.owners) Begin j ≡ judged verdict.Reducible k
+  one_begin : leb deepest deep ≡ false → (k : Judging) → judge_operation i t deep (held_set t.0 s.owners) Begin j ≡ judged (Ok tt) k
       → One i t.0 (deep + 1) (view_of s j).count Begin s j (state_of s.owners s.counts (set s.depths t.0 (deep + 1))) k
   unfolding judge_operation
   one_begin h k e = go (eqb deep 0) refl e
@@ -327,7 +327,7 @@ module _ (s : State) (j : Judging) (z : Long s j) (i : ℕ) (t : Thread) (small 
           both true = refl
           both false = refl
 
-      go : (b : Bool) → eqb deep 0 ≡ b → cond b (judged verdict.Reducible outer) (judged verdict.Reducible j) ≡ judged verdict.Reducible k
+      go : (b : Bool) → eqb deep 0 ≡ b → cond b (judged (Ok tt) outer) (judged (Ok tt) j) ≡ judged (Ok tt) k
           → One i t.0 (deep + 1) (view_of s j).count Begin s j n k
       go true q r = rw (sym (ap (λ (x : Judged). x.judging) r)) record {
         run = view_put s n j outer t.0 (deep + 1) 0 _ _ _ (λ x. refl) (λ x. refl) (set_depth (deep + 1)) (set_commit 0) (rw q);
@@ -369,14 +369,14 @@ module _ (s : State) (j : Judging) (z : Long s j) (i : ℕ) (t : Thread) (small 
       One i t.0 (nest deep a) (counted (view_of s j) t.0 a) (operation_of guards (level_in (view_of s j) t.0 a) a) s j n k
 
   abbrev Judges : List ℕ → Level → Action → Judging → Type 0
-  Judges guards x a k = judge_operation i t deep (held_set t.0 s.owners) (operation_of guards x a) j ≡ judged verdict.Reducible k
+  Judges guards x a k = judge_operation i t deep (held_set t.0 s.owners) (operation_of guards x a) j ≡ judged (Ok tt) k
 
   -- the test of an owner, as the run makes it
   own_test : (l : Lock) → owner_of l s ≡ t.0 + 1 → eqb (owner_of l s) (suc t.0) ≡ true
   own_test l e = eq-eqb _ _ (rw add-one at e)
 
   one_inner_judged : (l : Lock) (c : ℕ) (k : Judging) → l.0 < lock_count → owner_of l s ≡ t.0 + 1
-      → judge_operation i t deep (held_set t.0 s.owners) (Protected l) j ≡ judged verdict.Reducible k
+      → judge_operation i t deep (held_set t.0 s.owners) (Protected l) j ≡ judged (Ok tt) k
       → One i t.0 deep (put (λ m. get_or s.counts m 0) l.0 c) (Protected l) s j (with_count l c s) k
   unfolding judge_operation
   one_inner_judged l c k h e r =
@@ -397,7 +397,7 @@ module _ (s : State) (j : Judging) (z : Long s j) (i : ℕ) (t : Thread) (small 
   released_one guards l k h (freed e b) r = rw (own_test l e, le-leb (count_of l s) 1 b, sym (ap (λ (x : Judged). x.judging) r)) (one_release l h e)
   released_one guards l k h (let_go e b) r = rw (own_test l e, lt-leb (count_of l s) 1 b) (one_inner_judged l (count_of l s - 1) k h e r)
 
-  one_action : (guards : List ℕ) (n : State) (k : Judging) (a : Action) (x : Level) → ObjectInRange a → step_action t.0 a s ≡ stepped (outcome.Next x) n
+  one_action : (guards : List ℕ) (n : State) (k : Judging) (a : Action) (x : Level) → ObjectInRange a → step_action t.0 a s ≡ stepped (Ok x) n
       → Judges guards x a k → OneAction guards n k a
   unfolding step_action judge_operation
   one_action guards n k (action.Acquire l) x h e r = acquired_one guards l k h (acquired t.0 l s e) r
@@ -415,6 +415,6 @@ module _ (s : State) (j : Judging) (z : Long s j) (i : ℕ) (t : Thread) (small 
 
 -- One frame of the pass is one step of the run.
 pub one_frame : (guards : List ℕ) (i : ℕ) (f : Frame) (s n : State) (j k : Judging) (x : Level) → Long s j → InRange f
-    → step_frame f s ≡ stepped (outcome.Next x) n → judge_frame guards i f s j ≡ judged verdict.Reducible k
+    → step_frame f s ≡ stepped (Ok x) n → judge_frame guards i f s j ≡ judged (Ok tt) k
     → OneFrame guards i f s j n k
 one_frame guards i f s n j k x z r e v = one_action s j z i f.thread r.thread guards n k f.action x r.object e (rw e at v)

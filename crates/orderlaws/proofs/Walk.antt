@@ -1,5 +1,6 @@
 -- The code's walk over a recording that the pass judges reducible is the walk over frames: what it keeps follows the state of the pass. In this
 -- order: the counts, the depths, what commits; the tables; the units of open blocks; the unit that a frame commits; the walk.
+use Rattle.std.specs.Prelude.{Ok, Some, None}
 use Prim.Native.Nat.{ℕ, suc, ◌-◌}
 use mathlib.Core.Path.{◌≡◌, refl, sym, ap, ◌∙◌, subst}
 use mathlib.Core.Bool.{Bool, true, false, cond, not, ◌&&◌, ◌||◌}
@@ -20,16 +21,13 @@ use Rattle.frame.specs.declared.Lock.{Lock}
 use Rattle.frame.specs.declared.Frame.{Frame}
 use Rattle.frame.specs.declared.Action.{Action}
 use Rattle.frame.specs.declared.Action.TheVariants as action
-use Rattle.frame.specs.declared.Decoded.TheVariants as decoded
 use Rattle.frame.proofs.Laws.{decoded_in_range}
 use Rattle.guards.specs.Guards.{guard_of, unprotected_code}
 use Rattle.soundness.specs.Soundness.{State, owner_of, count_of, Stepped, stepped, step_action, step_frame, start, nest}
-use Rattle.soundness.specs.declared.Outcome.TheVariants as outcome
 use Rattle.soundness.specs.declared.Level.{Level}
 use Rattle.soundness.proofs.Laws.{spared, Acquired, took, took_again, acquired, Released, freed, let_go, released}
 use Rattle.instrumented.specs.Rules.{Judging}
 use Rattle.operation.specs.Operation.{guarded_access}
-use Rattle.reply.specs.declared.Mark.TheVariants.{At, Absent}
 use Rattle.exchange.specs.Exchange.{frames_of}
 use Rattle.commit.specs.Commit.{Tables, start_tables, counted, committing, start_in, visited, unit_start}
 use Rattle.serial.specs.Walk.{unit_from, unit_of, unit_in, walk_from}
@@ -56,7 +54,7 @@ released_counts : (t : ℕ) (l : Lock) (s : State) {x : Level} {n : State} → R
 released_counts t l s (freed e h) = let z : count_of l s - 1 ≡ 0 = omega arith in ap (set s.counts l.0) (sym z)
 released_counts t l s (let_go e h) = refl
 
-step_counts : (t : ℕ) (a : Action) (s n : State) (x : Level) → ObjectInRange a → Counts s → step_action t a s ≡ stepped (outcome.Next x) n
+step_counts : (t : ℕ) (a : Action) (s n : State) (x : Level) → ObjectInRange a → Counts s → step_action t a s ≡ stepped (Ok x) n
     → n.counts ≡ counted a s.counts
 unfolding step_action
 step_counts t (action.Acquire l) s n x r k e = acquired_counts t l s (k.are l r) (acquired t l s e)
@@ -75,7 +73,7 @@ released_depths : (t : ℕ) (l : Lock) (s : State) {x : Level} {n : State} → R
 released_depths t l s (freed e h) = refl
 released_depths t l s (let_go e h) = refl
 
-step_depths : (t : ℕ) (a : Action) (s n : State) (x : Level) → step_action t a s ≡ stepped (outcome.Next x) n
+step_depths : (t : ℕ) (a : Action) (s n : State) (x : Level) → step_action t a s ≡ stepped (Ok x) n
     → n.depths ≡ set s.depths t (nest (get_or s.depths t 0) a)
 unfolding step_action
 step_depths t (action.Acquire l) s n x e = acquired_depths t l s (acquired t l s e) ∙ sym (set-get_or s.depths t 0)
@@ -108,7 +106,7 @@ acquired_commits t l s j guards = go (eqb (owner_of l s) (suc t)) refl
     go true e = rw e
     go false e = rw e
 
-step_commits : (guards : List ℕ) (t : ℕ) (a : Action) (s n : State) (j : Judging) (x : Level) → step_action t a s ≡ stepped (outcome.Next x) n
+step_commits : (guards : List ℕ) (t : ℕ) (a : Action) (s n : State) (j : Judging) (x : Level) → step_action t a s ≡ stepped (Ok x) n
     → committing guards s.counts a ≡ run.committing (seen guards (view_of s j) (record { thread = record { 0 = t }; action = a }))
 step_commits guards t (action.Acquire l) s n j x e = acquired_commits t l s j guards
 step_commits guards t (action.Release l) s n j x e = released_commits t l s j guards (released t l s e)
@@ -137,7 +135,7 @@ kept_start j = record {
   committed_is = λ u. rw (get_or_filled thread_count u 0);
 }
 
-pub commits_are : (guards : List ℕ) (f : Frame) {s n : State} {j : Judging} {x : Tables} {l : Level} → step_frame f s ≡ stepped (outcome.Next l) n → Kept s j x
+pub commits_are : (guards : List ℕ) (f : Frame) {s n : State} {j : Judging} {x : Tables} {l : Level} → step_frame f s ≡ stepped (Ok l) n → Kept s j x
     → committing guards x.counts f.action ≡ run.committing (seen guards (view_of s j) f)
 commits_are guards f {s} {n} {j} {x} {l} g h = rw h.counts_are (step_commits guards (thread_of f) f.action s n j l g)
 
@@ -152,7 +150,7 @@ after_is true false i m c e = go (eqb c 0) refl
 after_is false false i m c e = e
 
 module _ (guards : List ℕ) {i : ℕ} {s n : State} {j k : Judging} {x : Tables} {f : Frame} {l : Level} (r : InRange f)
-    (g : step_frame f s ≡ stepped (outcome.Next l) n) (o : OneFrame guards i f s j n k) (h : Kept s j x) where
+    (g : step_frame f s ≡ stepped (Ok l) n) (o : OneFrame guards i f s j n k) (h : Kept s j x) where
   next_committed : (u : ℕ) → eqb (get_or (visited guards i f x).committed u 0) 0 ≡ eqb ((onto guards (view_of s j) i f).committed u) 0
   unfolding visited
   next_committed u = rw (get_or_set x.committed (thread_of f) _ u (omega (arith, h.committed_long, r.thread)), commits_are guards f g h, h.depths_are)
@@ -178,7 +176,7 @@ Opens all xs s x q y =
     (u : ℕ) → (get_or s.depths u 0 ≡ 0 → ⊥) → unit_of all xs (get_or x.starts u 0) (record { 0 = u }) ≡ units.unit_from u 0 (q u) (y u)
 
 module _ {A : Type 0} (guards all : List ℕ) (xs : List A) {i w : ℕ} {s : State} {j : Judging} {x : Tables} {f : Frame} {ws : List ℕ} (q : ℕ → List Frame)
-    (y : ℕ → List A) (r : InRange f) (d : decode_word w ≡ decoded.Frame f) (p : Pass guards i s j (w ∷ ws)) (e : drop i all ≡ w ∷ ws) (h : Kept s j x)
+    (y : ℕ → List A) (r : InRange f) (d : decode_word w ≡ Ok f) (p : Pass guards i s j (w ∷ ws)) (e : drop i all ≡ w ∷ ws) (h : Kept s j x)
     (v : Opens all xs s x q y) where
   -- the unit of the frame's thread, from its start on
   unit_of_lem : unit_of all xs (start_in (get_or s.depths (thread_of f) 0) i (get_or x.starts (thread_of f) 0)) f.thread
@@ -213,7 +211,7 @@ module _ {A : Type 0} (guards all : List ℕ) (xs : List A) {i w : ℕ} {s : Sta
 
   -- where a frame commits a unit
   commits_unit : (b : ℕ) (u : List A) → unit_of all xs b f.thread ≡ u → (a z : Bool) (m c : ℕ) → (k : Bool) → eqb m 0 ≡ k → eqb c 0 ≡ k
-      → unit_in (cond (eqb m 0) (cond (a || z) (At b) Absent) Absent) all xs f.thread
+      → unit_in (cond (eqb m 0) (cond (a || z) (Some b) None) None) all xs f.thread
       ≡ cond (eqb c 0 && (z || not (eqb (cond z 0 (cond (a && eqb c 0) (suc i) c)) 0))) u []
   commits_unit b u o a z m c false em ec = rw (em, ec)
   commits_unit b u o true true m c true em ec = rw (em, ec) o
@@ -222,7 +220,7 @@ module _ {A : Type 0} (guards all : List ℕ) (xs : List A) {i w : ℕ} {s : Sta
   commits_unit b u o false false m c true em ec = rw (em, ec)
 
   -- The unit that the frame commits.
-  emits : {l : Level} {n : State} → step_frame f s ≡ stepped (outcome.Next l) n
+  emits : {l : Level} {n : State} → step_frame f s ≡ stepped (Ok l) n
       → unit_in (unit_start guards i f x) all xs f.thread ≡ emitted guards (view_of s j) q y i f (frames_of ws) (drop i xs)
   unfolding unit_start
   emits g =

@@ -1,5 +1,6 @@
 -- The one pass of the code: each frame is checked and judged, and after a violation the rest is checked alone. It replies as a check of the
 -- whole recording before its judgement does.
+use Rattle.std.specs.Prelude.{Result, Ok, Err}
 use Prim.Native.Nat.{ℕ, ◌+◌, ◌≤◌, ◌<◌}
 use mathlib.Core.Path.{◌≡◌, refl, ap, ◌∙◌}
 use mathlib.Core.List.{List, [], ◌∷◌}
@@ -11,30 +12,22 @@ use Rattle.frame.specs.Limits.{most_frames}
 use Rattle.frame.specs.Frame.{decode_word}
 use Rattle.frame.specs.declared.Frame.{Frame}
 use Rattle.frame.specs.declared.Refusal.{Refusal}
-use Rattle.frame.specs.declared.Decoded.{Decoded}
-use Rattle.frame.specs.declared.Decoded.TheVariants as decoded
-use Rattle.reply.specs.Reply.{refused, reducible, violated}
-use Rattle.reply.specs.declared.Reply.{Reply}
+use Rattle.reply.specs.Reply.{refused, reducible, violated, Reply, Verdict}
 use Rattle.reply.specs.declared.Violation.{Violation}
-use Rattle.reply.specs.declared.Verdict.{Verdict}
-use Rattle.reply.specs.declared.Verdict.TheVariants as verdict
 use Rattle.soundness.specs.Soundness.{State, stepped, step_frame, check_from, start}
 use Rattle.soundness.proofs.Laws.{check_short}
-use Rattle.soundness.specs.declared.Outcome.{Outcome}
-use Rattle.soundness.specs.declared.Outcome.TheVariants as outcome
 use Rattle.soundness.specs.declared.Level.{Level}
-use Rattle.soundness.specs.declared.CheckReply.{CheckReply}
-use Rattle.soundness.specs.declared.CheckReply.TheVariants as check
 use Rattle.instrumented.specs.Rules.{Judging, judged}
 use Rattle.turn.specs.Turn.{judge_frame, turned, turned_to}
-use Rattle.turn.specs.declared.Turn.{Turn}
-use Rattle.turn.specs.declared.Turn.TheVariants as turn
+use Rattle.turn.specs.declared.Stop.{Stop}
+use Rattle.turn.specs.declared.Stop.TheVariants as stop
 use Rattle.pass.specs.Pass.{Ended, ended, on_decoded, judge_from, start_judging, on_check, judgement, sets_left, after_check, open_at_end}
+use Rattle.frame.specs.declared.Refused.{Refused}
 
-abbrev pub on_fused : Turn → ℕ → State → Judging → CheckReply → Ended → Ended
-on_fused turn.Next i s j q rest = rest
-on_fused (turn.Refused r) i s j q rest = ended (refused r i) s j
-on_fused (turn.Wrong v) i s j q rest = ended (after_check q v) s j
+abbrev pub on_fused : Result Unit Stop → ℕ → State → Judging → Result Unit Refused → Ended → Ended
+on_fused (Ok tt) i s j q rest = rest
+on_fused (Err (stop.Refused r)) i s j q rest = ended (refused r i) s j
+on_fused (Err (stop.Wrong v)) i s j q rest = ended (after_check q v) s j
 
 module _ (guards : List ℕ) where
   unfoldable pub fused_from : ℕ → State → Judging → List ℕ → Ended
@@ -44,12 +37,12 @@ module _ (guards : List ℕ) where
       on_fused (turned guards i f s j).turn i s j (check_from (i + 1) (turned guards i f s j).state ws).reply
       (fused_from (i + 1) (turned guards i f s j).state (turned guards i f s j).judging ws)
 
-after_reply : (q : CheckReply) (v : Violation) (c : Judging) (s : State) (j : Judging) → (on_check q c (ended (violated v) s j)).reply ≡ after_check q v
-after_reply check.Sound v c s j = refl
-after_reply (check.Refused r) v c s j = refl
+after_reply : (q : Result Unit Refused) (v : Violation) (c : Judging) (s : State) (j : Judging) → (on_check q c (ended (violated v) s j)).reply ≡ after_check q v
+after_reply (Ok tt) v c s j = refl
+after_reply (Err r) v c s j = refl
 
 -- The reply of a check before the pass, and the state in which the pass ends.
-abbrev both : CheckReply → Judging → Ended → Ended
+abbrev both : Result Unit Refused → Judging → Ended → Ended
 both q c e = ended (on_check q c e).reply e.state e.judging
 
 -- The two agree on the frames from a place on.
@@ -61,18 +54,18 @@ unfolding check_from judge_from fused_from
 fused_is guards i s j [] c = refl
 fused_is guards i s j (w ∷ ws) c = decode_case (λ n k. fused_is guards (i + 1) n k ws c) (decode_word w) refl
   where
-    judge_case : ((n : State) (k : Judging) → Agree guards (i + 1) n k ws c) → (f : Frame) → decode_word w ≡ decoded.Frame f → (x : Level) (n : State) → step_frame f s ≡ stepped (outcome.Next x) n
+    judge_case : ((n : State) (k : Judging) → Agree guards (i + 1) n k ws c) → (f : Frame) → decode_word w ≡ Ok f → (x : Level) (n : State) → step_frame f s ≡ stepped (Ok x) n
         → (v : Verdict) (k : Judging) → judge_frame guards i f s j ≡ judged v k → Agree guards i s j (w ∷ ws) c
-    judge_case ih f e x n g verdict.Reducible k a = rw (e, a, g) (ih n k)
-    judge_case ih f e x n g (verdict.Violated v) k a = rw (e, a, g) (ap (λ (r : Reply). ended r s j) (after_reply (check_from (i + 1) n ws).reply v c s j))
+    judge_case ih f e x n g (Ok tt) k a = rw (e, a, g) (ih n k)
+    judge_case ih f e x n g (Err v) k a = rw (e, a, g) (ap (λ (r : Reply). ended r s j) (after_reply (check_from (i + 1) n ws).reply v c s j))
 
-    step_case : ((n : State) (k : Judging) → Agree guards (i + 1) n k ws c) → (f : Frame) → decode_word w ≡ decoded.Frame f → (o : Outcome) (n : State) → step_frame f s ≡ stepped o n → Agree guards i s j (w ∷ ws) c
-    step_case ih f e (outcome.Next x) n g = judge_case ih f e x n g (judge_frame guards i f s j).verdict (judge_frame guards i f s j).judging refl
-    step_case ih f e (outcome.Bad r) n g = rw (e, g)
+    step_case : ((n : State) (k : Judging) → Agree guards (i + 1) n k ws c) → (f : Frame) → decode_word w ≡ Ok f → (o : Result Level Refusal) (n : State) → step_frame f s ≡ stepped o n → Agree guards i s j (w ∷ ws) c
+    step_case ih f e (Ok x) n g = judge_case ih f e x n g (judge_frame guards i f s j).verdict (judge_frame guards i f s j).judging refl
+    step_case ih f e (Err r) n g = rw (e, g)
 
-    decode_case : ((n : State) (k : Judging) → Agree guards (i + 1) n k ws c) → (d : Decoded) → decode_word w ≡ d → Agree guards i s j (w ∷ ws) c
-    decode_case ih (decoded.Frame f) e = step_case ih f e (step_frame f s).outcome (step_frame f s).state refl
-    decode_case ih (decoded.Bad r) e = rw e
+    decode_case : ((n : State) (k : Judging) → Agree guards (i + 1) n k ws c) → (d : Result Frame Refusal) → decode_word w ≡ d → Agree guards i s j (w ∷ ws) c
+    decode_case ih (Ok f) e = step_case ih f e (step_frame f s).outcome (step_frame f s).state refl
+    decode_case ih (Err r) e = rw e
 
 -- What the one pass answers is the judgement's reply and first open begin, and what it leaves are the sets.
 pub record Answers (guards sets ws : List ℕ) (e : Ended) : Type 0 where
@@ -80,9 +73,9 @@ pub record Answers (guards sets ws : List ℕ) (e : Ended) : Type 0 where
   pub unclosed : open_at_end (judgement guards sets ws) ≡ open_at_end e
   pub left : sets_left guards sets ws ≡ e.judging.sets
 
-both_open : (q : CheckReply) (c : Judging) (e : Ended) → open_at_end (on_check q c e) ≡ open_at_end (both q c e)
-both_open check.Sound c e = refl
-both_open (check.Refused r) c e = refl
+both_open : (q : Result Unit Refused) (c : Judging) (e : Ended) → open_at_end (on_check q c e) ≡ open_at_end (both q c e)
+both_open (Ok tt) c e = refl
+both_open (Err r) c e = refl
 
 pub judgement_fused : (guards sets ws : List ℕ) → length ws ≤ most_frames → Answers guards sets ws (fused_from guards 0 start (start_judging sets) ws)
 unfolding judgement sets_left
@@ -101,11 +94,11 @@ module _ (guards ws : List ℕ) (i : ℕ) (s : State) (j : Judging) where
   fused_end h = rw (drop_of_length-le ws h)
 
   module _ (h : i < length ws) where
-    pub fused_bad : {r : Refusal} → decode_word (get_or ws i 0) ≡ decoded.Bad r → fused_from guards i s j (drop i ws) ≡ ended (refused r i) s j
+    pub fused_bad : {r : Refusal} → decode_word (get_or ws i 0) ≡ Err r → fused_from guards i s j (drop i ws) ≡ ended (refused r i) s j
     unfolding fused_from
     fused_bad e = rw (drop-cons ws i 0 h, e)
 
-    pub fused_turn : {f : Frame} {q : Turn} {n : State} {k : Judging} → decode_word (get_or ws i 0) ≡ decoded.Frame f → turned guards i f s j ≡ turned_to q n k
+    pub fused_turn : {f : Frame} {q : Result Unit Stop} {n : State} {k : Judging} → decode_word (get_or ws i 0) ≡ Ok f → turned guards i f s j ≡ turned_to q n k
         → fused_from guards i s j (drop i ws) ≡ on_fused q i s j (check_from (i + 1) n (drop (i + 1) ws)).reply (fused_from guards (i + 1) n k (drop (i + 1) ws))
     unfolding fused_from
     fused_turn e t = rw (drop-cons ws i 0 h, e, t, add-one i)

@@ -1,4 +1,5 @@
 -- Laws of the judgement: it keeps the length of the table of candidate sets, and a recording that gets a verdict is sound.
+use Rattle.std.specs.Prelude.{Result, Ok, Err}
 use Prim.Native.Nat.{ℕ, ◌+◌, ◌≤◌}
 use mathlib.Core.Path.{◌≡◌, refl, sym, ap, ◌∙◌}
 use mathlib.Core.List.{List, [], ◌∷◌}
@@ -12,24 +13,19 @@ use Rattle.frame.specs.Frame.{decode_word}
 use Rattle.frame.specs.declared.Frame.{Frame}
 use Rattle.frame.specs.declared.Thread.{Thread}
 use Rattle.frame.specs.declared.Lock.{Lock}
-use Rattle.frame.specs.declared.Decoded.{Decoded}
-use Rattle.frame.specs.declared.Decoded.TheVariants as decoded
-use Rattle.reply.specs.declared.Reply.TheVariants as reply
-use Rattle.reply.specs.declared.Verdict.{Verdict}
-use Rattle.reply.specs.declared.Verdict.TheVariants as verdict
+use Rattle.reply.specs.Reply.{Verdict, Reply}
 use Rattle.soundness.specs.Soundness.{State, step_frame, check_reply, start}
 use Rattle.soundness.proofs.Laws.{sound_fits}
-use Rattle.soundness.specs.declared.Outcome.{Outcome}
-use Rattle.soundness.specs.declared.Outcome.TheVariants as outcome
-use Rattle.soundness.specs.declared.CheckReply.{CheckReply}
-use Rattle.soundness.specs.declared.CheckReply.TheVariants as check
 use Rattle.instrumented.specs.Rules.{Phase, outside, before, after, Judging, Judged, phase_at, contains, with_commit, committed, acquire_in, unprotected_in, judge_operation}
 use Rattle.operation.specs.declared.Operation.{Operation}
 use Rattle.operation.specs.declared.Operation.TheVariants.{Acquire, Release, Protected, Unprotected, Inferred, Begin, End}
 use Rattle.turn.specs.Turn.{judge_frame, Turned, turned, by_verdict, by_outcome}
-use Rattle.turn.specs.declared.Turn.{Turn}
-use Rattle.turn.specs.declared.Turn.TheVariants as turn
+use Rattle.turn.specs.declared.Stop.{Stop}
+use Rattle.turn.specs.declared.Stop.TheVariants as stop
 use Rattle.pass.specs.Pass.{Ended, on_turn, judge_from, start_judging, on_check, judgement, sets_left}
+use Rattle.frame.specs.declared.Refused.{Refused}
+use Rattle.soundness.specs.declared.Level.{Level}
+use Rattle.frame.specs.declared.Refusal.{Refusal}
 
 -- what is judged has as many sets as before
 abbrev AsMany : Judging → Judged → Type 0
@@ -60,57 +56,57 @@ turn_length : (guards : List ℕ) (i : ℕ) (f : Frame) (s : State) (j : Judging
 turn_length guards i f s j = stepping (step_frame f s).outcome _ (judging (judge_frame guards i f s j).verdict (judge_frame guards i f s j).judging (operation_length _ _ _ _ _ j))
   where
     judging : (v : Verdict) (k : Judging) → length k.sets ≡ length j.sets → length (by_verdict v (step_frame f s).state k).judging.sets ≡ length j.sets
-    judging verdict.Reducible k e = e
-    judging (verdict.Violated v) k e = e
+    judging (Ok tt) k e = e
+    judging (Err v) k e = e
 
-    stepping : (o : Outcome) (x : Turned) → length x.judging.sets ≡ length j.sets → length (by_outcome o (step_frame f s).state j x).judging.sets ≡ length j.sets
-    stepping (outcome.Next y) x e = e
-    stepping (outcome.Bad r) x e = refl
+    stepping : (o : Result Level Refusal) (x : Turned) → length x.judging.sets ≡ length j.sets → length (by_outcome o (step_frame f s).state j x).judging.sets ≡ length j.sets
+    stepping (Ok y) x e = e
+    stepping (Err r) x e = refl
 
-onward : (t : Turn) (i : ℕ) (s : State) (j : Judging) (e : Ended) → length e.judging.sets ≡ length j.sets → length (on_turn t i s j e).judging.sets ≡ length j.sets
-onward turn.Next i s j e q = q
-onward (turn.Refused r) i s j e q = refl
-onward (turn.Wrong v) i s j e q = refl
+onward : (t : Result Unit Stop) (i : ℕ) (s : State) (j : Judging) (e : Ended) → length e.judging.sets ≡ length j.sets → length (on_turn t i s j e).judging.sets ≡ length j.sets
+onward (Ok tt) i s j e q = q
+onward (Err (stop.Refused r)) i s j e q = refl
+onward (Err (stop.Wrong v)) i s j e q = refl
 
 judge_length : (guards : List ℕ) (i : ℕ) (s : State) (j : Judging) (ws : List ℕ) → length (judge_from guards i s j ws).judging.sets ≡ length j.sets
 unfolding judge_from
 judge_length guards i s j [] = refl
 judge_length guards i s j (w ∷ ws) = go (λ n k. judge_length guards (i + 1) n k ws) (decode_word w) refl
   where
-    go : ((n : State) (k : Judging) → length (judge_from guards (i + 1) n k ws).judging.sets ≡ length k.sets) → (d : Decoded) → decode_word w ≡ d
+    go : ((n : State) (k : Judging) → length (judge_from guards (i + 1) n k ws).judging.sets ≡ length k.sets) → (d : Result Frame Refusal) → decode_word w ≡ d
         → length (judge_from guards i s j (w ∷ ws)).judging.sets ≡ length j.sets
-    go ih (decoded.Frame f) e =
+    go ih (Ok f) e =
         rw e (onward (turned guards i f s j).turn i s j _ (ih (turned guards i f s j).state (turned guards i f s j).judging ∙ turn_length guards i f s j))
-    go ih (decoded.Bad r) e = rw e
+    go ih (Err r) e = rw e
 
-checking : (q : CheckReply) (j : Judging) (e : Ended) → length e.judging.sets ≡ length j.sets → length (on_check q j e).judging.sets ≡ length j.sets
-checking check.Sound j e p = p
-checking (check.Refused r) j e p = refl
+checking : (q : Result Unit Refused) (j : Judging) (e : Ended) → length e.judging.sets ≡ length j.sets → length (on_check q j e).judging.sets ≡ length j.sets
+checking (Ok tt) j e p = p
+checking (Err r) j e p = refl
 
 pub judgement_length : (guards sets ws : List ℕ) → length (judgement guards sets ws).judging.sets ≡ length sets
 unfolding judgement start_judging
 judgement_length guards sets ws = checking (check_reply ws) (start_judging sets) _ (judge_length guards 0 start (start_judging sets) ws)
 
 -- the judgement of a sound recording is its pass
-pub judgement_pass : (guards sets ws : List ℕ) → check_reply ws ≡ check.Sound → judgement guards sets ws ≡ judge_from guards 0 start (start_judging sets) ws
+pub judgement_pass : (guards sets ws : List ℕ) → check_reply ws ≡ (Ok tt) → judgement guards sets ws ≡ judge_from guards 0 start (start_judging sets) ws
 unfolding judgement
 judgement_pass guards sets ws e = rw e
 
 -- a recording that gets a verdict is sound
-pub judgement_sound : (guards sets ws : List ℕ) (v : Verdict) → (judgement guards sets ws).reply ≡ reply.Judged v → check_reply ws ≡ check.Sound
+pub judgement_sound : (guards sets ws : List ℕ) (v : Verdict) → (judgement guards sets ws).reply ≡ Ok v → check_reply ws ≡ (Ok tt)
 unfolding judgement
 judgement_sound guards sets ws v e = go (check_reply ws) refl
   where
-    go : (q : CheckReply) → check_reply ws ≡ q → check_reply ws ≡ check.Sound
-    go check.Sound f = f
-    go (check.Refused r) f = let g : reply.Refused r ≡ reply.Judged v = rw f at e in never (cc)
+    go : (q : Result Unit Refused) → check_reply ws ≡ q → check_reply ws ≡ (Ok tt)
+    go (Ok tt) f = f
+    go (Err r) f = let g : ◌≡◌ {A = Reply} (Err r) (Ok v) = rw f at e in never (cc)
 
 -- and has at most 4,096 frames
-pub judgement_fits : (guards sets ws : List ℕ) (v : Verdict) → (judgement guards sets ws).reply ≡ reply.Judged v → length ws ≤ most_frames
+pub judgement_fits : (guards sets ws : List ℕ) (v : Verdict) → (judgement guards sets ws).reply ≡ Ok v → length ws ≤ most_frames
 judgement_fits guards sets ws v e = sound_fits ws (judgement_sound guards sets ws v e)
 
 -- the pass leaves the sets of a verdict
-pub judged_left : (guards sets ws : List ℕ) (v : Verdict) → (judgement guards sets ws).reply ≡ reply.Judged v → sets_left guards sets ws ≡ (judgement guards sets ws).judging.sets
+pub judged_left : (guards sets ws : List ℕ) (v : Verdict) → (judgement guards sets ws).reply ≡ Ok v → sets_left guards sets ws ≡ (judgement guards sets ws).judging.sets
 unfolding sets_left
 judged_left guards sets ws v e =
     rw (le-ltb most_frames (length ws) (judgement_fits guards sets ws v e)) (sym (ap (λ (x : Ended). x.judging.sets) (judgement_pass guards sets ws (judgement_sound guards sets ws v e))))

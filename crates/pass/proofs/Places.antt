@@ -1,4 +1,5 @@
 -- The places of a judgement's reply are at most 4,096: a violation's frame is one of the recording's, and its begin and commit are no later.
+use Rattle.std.specs.Prelude.{Result, Ok, Err, Option, Some, None}
 use Prim.Native.Nat.{ℕ, ◌+◌, ◌≤◌, ◌<◌}
 use mathlib.Core.Path.{◌≡◌, refl}
 use mathlib.Core.List.{List, [], ◌∷◌}
@@ -13,33 +14,25 @@ use Rattle.frame.specs.Frame.{decode_word}
 use Rattle.frame.specs.declared.Frame.{Frame}
 use Rattle.frame.specs.declared.Thread.{Thread}
 use Rattle.frame.specs.declared.Lock.{Lock}
-use Rattle.frame.specs.declared.Decoded.{Decoded}
-use Rattle.frame.specs.declared.Decoded.TheVariants as decoded
-use Rattle.reply.specs.declared.Mark.{Mark}
-use Rattle.reply.specs.declared.Mark.TheVariants as mark
 use Rattle.reply.specs.declared.Violation.{Violation}
-use Rattle.reply.specs.declared.Verdict.{Verdict}
-use Rattle.reply.specs.declared.Verdict.TheVariants as verdict
-use Rattle.reply.specs.declared.Reply.{Reply}
-use Rattle.reply.specs.declared.Reply.TheVariants as reply
+use Rattle.reply.specs.Reply.{Verdict, Reply}
 use Rattle.soundness.specs.Soundness.{State, step_frame, check_reply, start}
 use Rattle.soundness.proofs.Laws.{sound_fits, check_place}
-use Rattle.soundness.specs.declared.Outcome.{Outcome}
-use Rattle.soundness.specs.declared.Outcome.TheVariants as outcome
-use Rattle.soundness.specs.declared.CheckReply.{CheckReply}
-use Rattle.soundness.specs.declared.CheckReply.TheVariants as check
 use Rattle.instrumented.specs.Rules.{Phase, outside, before, after, Judging, Judged, begin_mark, commit_mark, phase_at, contains, with_commit, committed, acquire_in, unprotected_in, judge_operation}
 use Rattle.operation.specs.declared.Operation.{Operation}
 use Rattle.operation.specs.declared.Operation.TheVariants.{Acquire, Release, Protected, Unprotected, Inferred, Begin, End}
 use Rattle.turn.specs.Turn.{judge_frame, Turned, turned, by_verdict, by_outcome}
-use Rattle.turn.specs.declared.Turn.{Turn}
-use Rattle.turn.specs.declared.Turn.TheVariants as turn
+use Rattle.turn.specs.declared.Stop.{Stop}
+use Rattle.turn.specs.declared.Stop.TheVariants as stop
 use Rattle.pass.specs.Pass.{Ended, on_decoded, on_turn, judge_from, start_judging, on_check, judgement}
+use Rattle.frame.specs.declared.Refused.{Refused}
+use Rattle.soundness.specs.declared.Level.{Level}
+use Rattle.frame.specs.declared.Refusal.{Refusal}
 
 -- A mark that is absent or at most m.
-abbrev pub MarkUpTo : ℕ → Mark → Type 0
-MarkUpTo m (mark.At i) = i ≤ m
-MarkUpTo m mark.Absent = Unit {0}
+abbrev pub MarkUpTo : ℕ → Option ℕ → Type 0
+MarkUpTo m (Some i) = i ≤ m
+MarkUpTo m None = Unit {0}
 
 -- The places of a violation are below m, its begin and commit no later than its frame.
 pub record Below (m : ℕ) (v : Violation) : Type 0 where
@@ -48,18 +41,18 @@ pub record Below (m : ℕ) (v : Violation) : Type 0 where
   pub commit : MarkUpTo v.frame v.commit
 
 abbrev pub VerdictBelow : ℕ → Verdict → Type 0
-VerdictBelow m verdict.Reducible = Unit {0}
-VerdictBelow m (verdict.Violated v) = Below m v
+VerdictBelow m (Ok tt) = Unit {0}
+VerdictBelow m (Err v) = Below m v
 
-abbrev TurnBelow : ℕ → Turn → Type 0
-TurnBelow m turn.Next = Unit {0}
-TurnBelow m (turn.Refused r) = Unit {0}
-TurnBelow m (turn.Wrong v) = Below m v
+abbrev TurnBelow : ℕ → Result Unit Stop → Type 0
+TurnBelow m (Ok tt) = Unit {0}
+TurnBelow m (Err (stop.Refused r)) = Unit {0}
+TurnBelow m (Err (stop.Wrong v)) = Below m v
 
 -- So are those of a reply; a refusal may be at m.
 abbrev pub ReplyBelow : ℕ → Reply → Type 0
-ReplyBelow m (reply.Refused r) = r.place ≤ m
-ReplyBelow m (reply.Judged v) = VerdictBelow m v
+ReplyBelow m (Err r) = r.place ≤ m
+ReplyBelow m (Ok v) = VerdictBelow m v
 
 -- Before place i, every begin and commit in the state is at most i.
 record Since (i : ℕ) (j : Judging) : Type 0 where
@@ -144,22 +137,22 @@ turn_led guards i f s j b = stepping (step_frame f s).outcome (judging (judge_fr
     judging x h = go x.verdict h.wrong
       where
         go : (v : Verdict) → VerdictBelow (i + 1) v → Led i (by_verdict v (step_frame f s).state x.judging)
-        go verdict.Reducible w = record { wrong = tt; next = h.next }
-        go (verdict.Violated v) w = record { wrong = w; next = h.next }
+        go (Ok tt) w = record { wrong = tt; next = h.next }
+        go (Err v) w = record { wrong = w; next = h.next }
 
-    stepping : (o : Outcome) {x : Turned} → Led i x → Led i (by_outcome o (step_frame f s).state j x)
-    stepping (outcome.Next y) l = l
-    stepping (outcome.Bad r) l = record { wrong = tt; next = later b }
+    stepping : (o : Result Level Refusal) {x : Turned} → Led i x → Led i (by_outcome o (step_frame f s).state j x)
+    stepping (Ok y) l = l
+    stepping (Err r) l = record { wrong = tt; next = later b }
 
 module _ (m i : ℕ) (s : State) (j : Judging) (h : i < m) where
-  decoding : (d : Decoded) (rest : Frame → Ended) → ((f : Frame) → ReplyBelow m (rest f).reply) → ReplyBelow m (on_decoded d i s j rest).reply
-  decoding (decoded.Frame f) rest g = g f
-  decoding (decoded.Bad r) rest g = omega arith
+  decoding : (d : Result Frame Refusal) (rest : Frame → Ended) → ((f : Frame) → ReplyBelow m (rest f).reply) → ReplyBelow m (on_decoded d i s j rest).reply
+  decoding (Ok f) rest g = g f
+  decoding (Err r) rest g = omega arith
 
-  onward : (t : Turn) (e : Ended) → TurnBelow (i + 1) t → ReplyBelow m e.reply → ReplyBelow m (on_turn t i s j e).reply
-  onward turn.Next e b g = g
-  onward (turn.Refused r) e b g = omega arith
-  onward (turn.Wrong v) e b g = record { frame = omega (arith, b.frame); begin = b.begin; commit = b.commit }
+  onward : (t : Result Unit Stop) (e : Ended) → TurnBelow (i + 1) t → ReplyBelow m e.reply → ReplyBelow m (on_turn t i s j e).reply
+  onward (Ok tt) e b g = g
+  onward (Err (stop.Refused r)) e b g = omega arith
+  onward (Err (stop.Wrong v)) e b g = record { frame = omega (arith, b.frame); begin = b.begin; commit = b.commit }
 
 judge_places : (guards : List ℕ) (i : ℕ) (s : State) (j : Judging) (ws : List ℕ) (m : ℕ) → i + length ws ≤ m → Since i j
     → ReplyBelow m (judge_from guards i s j ws).reply
@@ -180,6 +173,6 @@ pub judgement_places : (guards sets ws : List ℕ) → ReplyBelow most_frames (j
 unfolding judgement
 judgement_places guards sets ws = go (check_reply ws) refl
   where
-    go : (q : CheckReply) → check_reply ws ≡ q → ReplyBelow most_frames (on_check q (start_judging sets) (judge_from guards 0 start (start_judging sets) ws)).reply
-    go check.Sound e = judge_places guards 0 start (start_judging sets) ws most_frames (omega (arith, sound_fits ws e)) (start_since sets)
-    go (check.Refused r) e = check_place ws r e
+    go : (q : Result Unit Refused) → check_reply ws ≡ q → ReplyBelow most_frames (on_check q (start_judging sets) (judge_from guards 0 start (start_judging sets) ws)).reply
+    go (Ok tt) e = judge_places guards 0 start (start_judging sets) ws most_frames (omega (arith, sound_fits ws e)) (start_since sets)
+    go (Err r) e = check_place ws r e

@@ -1,27 +1,20 @@
 -- The judging pass over a recording, from any state and place, and the judgement of a whole recording.
 -- `guards` has the code of each variable's guard (crate guards).
 -- Quotes are from docs/FORMAT.md.
-use Rattle.std.specs.Prelude.{ℕ, zero, suc, ◌+◌, cond, List, [], ◌∷◌, eqb, ltb, length, get_or, replicate}
+use Rattle.std.specs.Prelude.{ℕ, zero, suc, ◌+◌, cond, List, [], ◌∷◌, eqb, ltb, length, get_or, replicate, Result, Ok, Err, Option, Some, None}
 use Rattle.frame.specs.Limits.{thread_count, variable_count, most_frames, all_locks}
 use Rattle.frame.specs.Frame.{decode_word}
 use Rattle.frame.specs.declared.Frame.{Frame}
-use Rattle.frame.specs.declared.Decoded.{Decoded}
-use Rattle.frame.specs.declared.Decoded.TheVariants as decoded
-use Rattle.reply.specs.Reply.{refused, reducible, violated}
-use Rattle.reply.specs.declared.Mark.{Mark}
-use Rattle.reply.specs.declared.Mark.TheVariants as mark
-use Rattle.reply.specs.declared.Reply.{Reply}
-use Rattle.reply.specs.declared.Reply.TheVariants as reply
+use Rattle.reply.specs.Reply.{refused, reducible, violated, Reply}
 use Rattle.reply.specs.declared.Violation.{Violation}
-use Rattle.reply.specs.declared.Verdict.TheVariants as verdict
 use Rattle.soundness.specs.Soundness.{State, check_reply, start}
-use Rattle.soundness.specs.declared.CheckReply.{CheckReply}
-use Rattle.soundness.specs.declared.CheckReply.TheVariants as check
 use Rattle.instrumented.specs.Rules.{Judging, judging_of}
 use Rattle.turn.specs.Turn.{turned}
-use Rattle.turn.specs.declared.Turn.{Turn}
-use Rattle.turn.specs.declared.Turn.TheVariants as turn
+use Rattle.turn.specs.declared.Stop.{Stop}
+use Rattle.turn.specs.declared.Stop.TheVariants as stop
 use Rattle.pass.specs.declared.Passed.{Passed}
+use Rattle.frame.specs.declared.Refused.{Refused}
+use Rattle.frame.specs.declared.Refusal.{Refusal}
 
 -- The reply of a pass, and the state in which it ends: after the last frame, or before the frame that is refused or goes wrong.
 pub record Ended : Type 0 where
@@ -32,14 +25,14 @@ pub record Ended : Type 0 where
 abbrev pub ended : Reply → State → Judging → Ended
 ended r s j = record { reply = r; state = s; judging = j }
 
-abbrev pub on_decoded : Decoded → ℕ → State → Judging → (Frame → Ended) → Ended
-on_decoded (decoded.Frame f) i s j rest = rest f
-on_decoded (decoded.Bad r) i s j rest = ended (refused r i) s j
+abbrev pub on_decoded : Result Frame Refusal → ℕ → State → Judging → (Frame → Ended) → Ended
+on_decoded (Ok f) i s j rest = rest f
+on_decoded (Err r) i s j rest = ended (refused r i) s j
 
-abbrev pub on_turn : Turn → ℕ → State → Judging → Ended → Ended
-on_turn turn.Next i s j rest = rest
-on_turn (turn.Refused r) i s j rest = ended (refused r i) s j
-on_turn (turn.Wrong v) i s j rest = ended (violated v) s j
+abbrev pub on_turn : Result Unit Stop → ℕ → State → Judging → Ended → Ended
+on_turn (Ok tt) i s j rest = rest
+on_turn (Err (stop.Refused r)) i s j rest = ended (refused r i) s j
+on_turn (Err (stop.Wrong v)) i s j rest = ended (violated v) s j
 
 -- The frames from place i on: each is refused, goes wrong, which ends the pass, or leads to the next state.
 unfoldable pub judge_from : List ℕ → ℕ → State → Judging → List ℕ → Ended
@@ -56,9 +49,9 @@ start_judging sets = judging_of (replicate thread_count 0) (replicate thread_cou
 unfoldable pub full_sets : List ℕ
 full_sets = replicate variable_count all_locks
 
-abbrev pub on_check : CheckReply → Judging → Ended → Ended
-on_check check.Sound j rest = rest
-on_check (check.Refused r) j rest = ended (reply.Refused r) start j
+abbrev pub on_check : Result Unit Refused → Judging → Ended → Ended
+on_check (Ok tt) j rest = rest
+on_check (Err r) j rest = ended (Err r) start j
 
 -- "a recording is sound throughout before any verdict is given"
 unfoldable pub judgement : List ℕ → List ℕ → List ℕ → Ended
@@ -70,36 +63,36 @@ unfoldable pub sets_left : List ℕ → List ℕ → List ℕ → List ℕ
 sets_left guards sets ws = cond (ltb most_frames (length ws)) sets (judge_from guards 0 start (start_judging sets) ws).judging.sets
 
 -- The earlier of two places.
-abbrev pub earlier : Mark → Mark → Mark
-earlier mark.Absent m = m
-earlier (mark.At x) mark.Absent = mark.At x
-earlier (mark.At x) (mark.At y) = cond (ltb y x) (mark.At y) (mark.At x)
+abbrev pub earlier : Option ℕ → Option ℕ → Option ℕ
+earlier None m = m
+earlier (Some x) None = Some x
+earlier (Some x) (Some y) = cond (ltb y x) (Some y) (Some x)
 
 -- The outermost begin of a thread at depth d, where a block is open.
-abbrev pub open_begin : ℕ → ℕ → Mark
-open_begin d b = cond (eqb d 0) mark.Absent (mark.At b)
+abbrev pub open_begin : ℕ → ℕ → Option ℕ
+open_begin d b = cond (eqb d 0) None (Some b)
 
 -- "smallest place of an open outermost begin", of the threads k, k + 1, .., of which there are n
-unfoldable pub first_open_from : ℕ → ℕ → Mark → List ℕ → List ℕ → Mark
+unfoldable pub first_open_from : ℕ → ℕ → Option ℕ → List ℕ → List ℕ → Option ℕ
 first_open_from zero k m depths begins = m
 first_open_from (suc n) k m depths begins = first_open_from n (k + 1) (earlier m (open_begin (get_or depths k 0) (get_or begins k 0))) depths begins
 
-abbrev pub first_open : State → Judging → Mark
-first_open s j = first_open_from thread_count 0 mark.Absent s.depths j.begins
+abbrev pub first_open : State → Judging → Option ℕ
+first_open s j = first_open_from thread_count 0 None s.depths j.begins
 
 -- The first open begin that a pass answers beside its reply: that of a reducible recording.
-abbrev pub open_under : Reply → Mark → Mark
-open_under (reply.Refused r) m = mark.Absent
-open_under (reply.Judged verdict.Reducible) m = m
-open_under (reply.Judged (verdict.Violated v)) m = mark.Absent
+abbrev pub open_under : Reply → Option ℕ → Option ℕ
+open_under (Err r) m = None
+open_under (Ok (Ok tt)) m = m
+open_under (Ok (Err v)) m = None
 
-abbrev pub open_at_end : Ended → Mark
+abbrev pub open_at_end : Ended → Option ℕ
 open_at_end e = open_under e.reply (first_open e.state e.judging)
 
-abbrev pub passed_with : Reply → Mark → Passed
+abbrev pub passed_with : Reply → Option ℕ → Passed
 passed_with r m = record { reply = r; unclosed = m }
 
 -- A violation in frames of which the rest is checked for soundness: a refusal there wins.
-abbrev pub after_check : CheckReply → Violation → Reply
-after_check check.Sound v = violated v
-after_check (check.Refused r) v = reply.Refused r
+abbrev pub after_check : Result Unit Refused → Violation → Reply
+after_check (Ok tt) v = violated v
+after_check (Err r) v = Err r

@@ -8,70 +8,69 @@ ghost use Rattle.frame.specs.Limits.{thread_count, most_frames};
 ghost use Rattle.reply.specs.Reply.{refused as refusedReply};
 ghost use Rattle.pass.specs.Pass.{judgement, sets_left, after_check, earlier, first_open_from, open_at_end, passed_with};
 
-use frame::{Decoded, LOCKS, MOST, MOST_PLACE, Refusal, Refused, THREADS, VARIABLES};
-use reply::{Mark, Reply, Verdict, Violation};
-use soundness::CheckReply;
-use turn::Turn;
+use frame::{LOCKS, MOST, MOST_PLACE, Refusal, Refused, THREADS, VARIABLES};
+use reply::{Reply, Violation};
+use turn::Stop;
 
 // What a pass answers: the reply, and the first open begin at the end of a recording that is reducible.
 #[derive(Drop)]
 pub struct Passed {
     pub reply: Reply,
-    pub unclosed: Mark,
+    pub unclosed: Option<u32>,
 }
 
 fn refused(r: Refusal, i: u32) -> Passed
-    ensures { result ≡ passed_with (refusedReply r i) Mark.Absent }
+    ensures { result ≡ passed_with (refusedReply r i) None }
 {
     Passed {
-        reply: Reply::Refused(Refused {
+        reply: Err(Refused {
             reason: r,
             place: i,
         }),
-        unclosed: Mark::Absent,
+        unclosed: None,
     }
 }
 
-fn after_check(q: CheckReply, v: Violation) -> Passed
-    ensures { result ≡ passed_with (after_check q v) Mark.Absent }
+fn after_check(q: Result<(), Refused>, v: Violation) -> Passed
+    ensures { result ≡ passed_with (after_check q v) None }
 {
     match q {
-        CheckReply::Refused(x) => Passed {
-            reply: Reply::Refused(x),
-            unclosed: Mark::Absent,
+        Err(x) => Passed {
+            reply: Err(x),
+            unclosed: None,
         },
-        CheckReply::Sound => Passed {
-            reply: Reply::Judged(Verdict::Violated(v)),
-            unclosed: Mark::Absent,
+        Ok(()) => Passed {
+            reply: Ok(Err(v)),
+            unclosed: None,
         },
     }
 }
 
 // The earlier of two places.
-fn earlier_of(a: Mark, b: Mark) -> Mark
+fn earlier_of(a: Option<u32>, b: Option<u32>) -> Option<u32>
     ensures { result ≡ earlier a b }
 {
-    let Mark::At(x) = a else {
+    let Some(x) = a else {
         return b;
     };
-    let Mark::At(y) = b else {
-        return Mark::At(x);
+    let Some(y) = b else {
+        return Some(x);
     };
     if y < x {
-        return Mark::At(y);
+        return Some(y);
     }
-    Mark::At(x)
+    Some(x)
 }
 
 // The earliest begin of a block that is open.
-fn first_open(depths: &[u8; THREADS], begins: &[u32; THREADS]) -> Mark
-    ensures { result ≡ first_open_from thread_count 0 Mark.Absent depths.now begins.now }
+fn first_open(depths: &[u8; THREADS], begins: &[u32; THREADS]) -> Option<u32>
+    ensures { result ≡ first_open_from thread_count 0 None depths.now begins.now }
 {
-    let mut least = Mark::Absent;
+    let mut least = None;
     let mut k: usize = 0;
     while k < THREADS {
         if depths[k] != 0 {
-            let b = Mark::At(begins[k]);
+            let b = Some(begins[k]);
             least = earlier_of(least, b);
         }
         k += 1;
@@ -95,7 +94,7 @@ fn run(words: &[u32], guards: &[u8; VARIABLES], sets: &mut [u64; VARIABLES]) -> 
     let mut i: u32 = 0;
     while i < n {
         let d = frame::decode(words[i as usize]);
-        let Decoded::Frame(f) = d else {
+        let Ok(f) = d else {
             return refused(frame::refusal_of(d), i);
         };
         let q = turn::judge_frame(
@@ -111,10 +110,10 @@ fn run(words: &[u32], guards: &[u8; VARIABLES], sets: &mut [u64; VARIABLES]) -> 
             f,
         );
         match q {
-            Turn::Refused(r) => {
+            Err(Stop::Refused(r)) => {
                 return refused(r, i);
             }
-            Turn::Wrong(v) => {
+            Err(Stop::Wrong(v)) => {
                 let c = soundness::check_from(
                     words,
                     &mut owners,
@@ -124,12 +123,12 @@ fn run(words: &[u32], guards: &[u8; VARIABLES], sets: &mut [u64; VARIABLES]) -> 
                 );
                 return after_check(c, v);
             }
-            Turn::Next => {}
+            Ok(()) => {}
         }
         i += 1;
     }
     Passed {
-        reply: Reply::Judged(Verdict::Reducible),
+        reply: Ok(Ok(())),
         unclosed: first_open(&depths, &begins),
     }
 }

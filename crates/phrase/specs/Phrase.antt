@@ -1,13 +1,13 @@
 -- What sentences name. Lines count from 1 and places, in brackets, from 0.
-use Rattle.std.specs.Prelude.{ℕ, ◌+◌, List, ◌++◌}
+use Rattle.std.specs.Prelude.{ℕ, ◌+◌, List, ◌++◌, Result, Ok, Err}
 use Rattle.frame.specs.declared.Action.{Action}
 use Rattle.frame.specs.declared.Action.TheVariants as action
-use Rattle.frame.specs.declared.Decoded.{Decoded}
-use Rattle.frame.specs.declared.Decoded.TheVariants as decoded
 use Rattle.frame.specs.declared.Variable.{Variable}
 use Rattle.output.specs.Output.{bytes, decimal}
 use Rattle.phrase.specs.declared.Source.{Source}
 use Rattle.phrase.specs.declared.Source.TheVariants as source
+use Rattle.frame.specs.declared.Refusal.{Refusal}
+use Rattle.frame.specs.declared.Frame.{Frame}
 
 -- SOURCE: "of a kept line also the text" (docs/TOOL.md).
 unfoldable pub source_text : Source → List ℕ
@@ -30,9 +30,9 @@ action_text action.Begin = bytes "begin"
 action_text action.End = bytes "end"
 
 -- What a frame does.
-unfoldable pub decoded_text : Decoded → List ℕ
-decoded_text (decoded.Frame f) = action_text f.action
-decoded_text (decoded.Bad r) = bytes "no frame"
+unfoldable pub decoded_text : Result Frame Refusal → List ℕ
+decoded_text (Ok f) = action_text f.action
+decoded_text (Err r) = bytes "no frame"
 
 abbrev pub accessed : Action → Variable
 accessed (action.Acquire l) = record { 0 = 0 }
@@ -43,6 +43,6 @@ accessed action.Begin = record { 0 = 0 }
 accessed action.End = record { 0 = 0 }
 
 -- The variable that a frame reads or writes; 0 where there is none, which no sentence shows.
-abbrev pub variable_in : Decoded → Variable
-variable_in (decoded.Frame f) = accessed f.action
-variable_in (decoded.Bad r) = record { 0 = 0 }
+abbrev pub variable_in : Result Frame Refusal → Variable
+variable_in (Ok f) = accessed f.action
+variable_in (Err r) = record { 0 = 0 }

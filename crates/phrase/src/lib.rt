@@ -6,7 +6,7 @@ ghost use Rattle.std.specs.Prelude.{◌≡◌, ◌++◌};
 ghost use Rattle.output.specs.Output.{Appended, decimal};
 ghost use Rattle.phrase.specs.Phrase.{source_text, line_text, action_text, decoded_text, variable_in};
 
-use frame::{Action, Decoded, Frame, Variable};
+use frame::{Action, Frame, Refusal, Variable};
 use output::Text;
 
 // What is spoken of.
@@ -66,21 +66,21 @@ fn put_action(out: &mut Text<'_>, action: Action)
 
 // What a frame does.
 #[tactic(auto, unfolding(crate::specs::Phrase::decoded_text, output::specs::Output::bytes))]
-pub fn put_frame(out: &mut Text<'_>, decoded: Decoded)
+pub fn put_frame(out: &mut Text<'_>, decoded: Result<Frame, Refusal>)
     ensures { Appended out.old out.new (decoded_text decoded) }
 {
     match decoded {
-        Decoded::Frame(frame) => put_action(out, frame.action),
-        Decoded::Bad(_) => out.put_text(b"no frame"),
+        Ok(frame) => put_action(out, frame.action),
+        Err(_) => out.put_text(b"no frame"),
     }
 }
 
 // The variable that a frame reads or writes.
-pub fn variable_of(decoded: Decoded) -> Variable
+pub fn variable_of(decoded: Result<Frame, Refusal>) -> Variable
     ensures { result ≡ variable_in decoded }
 {
     match decoded {
-        Decoded::Frame(
+        Ok(
             Frame {
                 action: Action::Read(variable) | Action::Write(variable),
                 ..

@@ -1,5 +1,6 @@
 -- One word that passes the tests is a frame that passes, and leaves what is stored: a law for each operation, and one over all. Then the turns
 -- of the loop.
+use Rattle.std.specs.Prelude.{Ok}
 use Prim.Native.Nat.{ℕ, ◌+◌, ◌-◌, ◌%◌, ◌≤◌, ◌<◌}
 use mathlib.Core.Path.{◌≡◌, sym, ap, ◌∙◌, subst}
 use mathlib.Core.Bool.{false}
@@ -16,7 +17,6 @@ use Rattle.frame.specs.Frame.{decode_parts, decode_word}
 use Rattle.soundness.specs.Soundness.{State, state_of, stepped, step_action, step_decoded, check_from}
 use Rattle.soundness.specs.declared.Level.{Level}
 use Rattle.soundness.specs.declared.Level.TheVariants.{Outer, Inner}
-use Rattle.soundness.specs.declared.Outcome.TheVariants as outcome
 use Rattle.quick.specs.Quick.{picked, object_end, held_end, owner_after, PassedTo}
 
 -- 1 or 0
@@ -71,7 +71,7 @@ module _ (o c d : List ℕ) (t b : ℕ) where
       → depth ≤ deepest - picked op 5 1 0 → 1 ≤ above op
       → (x : Level)
       × (step_decoded (decode_parts op t b) (state_of o c d)
-      ≡ stepped (outcome.Next x)
+      ≡ stepped (Ok x)
       (state_of (set o lock (owner_after op (t + 1) owner (counted op))) (set c lock (counted op)) (set d t (above op - 1))))
 
   module _ (small : t < thread_count) where
@@ -155,7 +155,7 @@ module _ (o c d : List ℕ) (t b : ℕ) where
 
 -- one word more has passed
 pub passed_more : {ws : List ℕ} {i : ℕ} {s n m : State} {x : Level} → i < length ws → PassedTo ws i s n
-    → step_decoded (decode_word (get_or ws i 0)) n ≡ stepped (outcome.Next x) m
+    → step_decoded (decode_word (get_or ws i 0)) n ≡ stepped (Ok x) m
     → PassedTo ws (i + 1) s m
 unfolding check_from
 passed_more {ws} {i} h p e = record {

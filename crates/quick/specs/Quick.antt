@@ -1,10 +1,9 @@
 -- What the functions of the quick check promise each other.
-use Rattle.std.specs.Prelude.{ℕ, ◌+◌, ◌≤◌, ◌≡◌, Bool, true, false, cond, List, eqb, leb, length, drop}
+use Rattle.std.specs.Prelude.{ℕ, ◌+◌, ◌≤◌, ◌≡◌, Bool, true, false, cond, List, eqb, leb, length, drop, Ok}
 use Rattle.frame.specs.Frame.{decode_word}
 use Rattle.frame.specs.Limits.{lock_count, variable_count, most_held}
 use Rattle.soundness.specs.Soundness.{State, stepped, step_decoded, check_from}
 use Rattle.soundness.specs.declared.Level.{Level}
-use Rattle.soundness.specs.declared.Outcome.TheVariants as outcome
 
 -- A number where n is k, and another for all others.
 abbrev pub picked : ℕ → ℕ → ℕ → ℕ → ℕ
@@ -24,7 +23,7 @@ owner_after op own have n = cond (leb op 2) (picked n 0 0 own) have
 
 -- A word whose frame passes leads from state s to n; of any other the state stays.
 abbrev pub PassedBy : Bool → ℕ → State → State → Type 0
-PassedBy true w s n = (x : Level) × (step_decoded (decode_word w) s ≡ stepped (outcome.Next x) n)
+PassedBy true w s n = (x : Level) × (step_decoded (decode_word w) s ≡ stepped (Ok x) n)
 PassedBy false w s n = n ≡ s
 
 -- The first i words have passed, from state s to n.

@@ -7,10 +7,7 @@ ghost use Rattle.std.specs.Prelude.{◌≡◌, eqb, not};
 ghost use Rattle.soundness.specs.Soundness.{state_of, check_reply};
 ghost use Rattle.quick.specs.Quick.{picked, object_end, held_end, owner_after, PassedBy, PassedTo};
 
-use frame::{
-    DEEPEST, LOCKS, MOST, MOST_HELD, MOST_PLACE, Refusal, Refused, Split, THREADS, VARIABLES,
-};
-use soundness::CheckReply;
+use frame::{DEEPEST, LOCKS, MOST, MOST_HELD, MOST_PLACE, Refusal, Refused, THREADS, VARIABLES};
 
 const LOCK_END: u32 = LOCKS as u32;
 
@@ -80,7 +77,7 @@ fn passes(
 ) -> bool
     ensures { PassedBy result w (state_of owners.old counts.old depths.old) (state_of owners.new counts.new depths.new) }
 {
-    let Split::Parts(p) = frame::split_word(w) else {
+    let Some(p) = frame::split_word(w) else {
         return false;
     };
     let op = p.operation as u32;
@@ -141,11 +138,11 @@ fn passed(
 }
 
 // A whole recording.
-pub fn check(words: &[u32]) -> CheckReply
+pub fn check(words: &[u32]) -> Result<(), Refused>
     ensures { result ≡ check_reply words.now }
 {
     if MOST < words.len() {
-        return CheckReply::Refused(Refused {
+        return Err(Refused {
             reason: Refusal::TooLong,
             place: MOST_PLACE,
         });

@@ -1,5 +1,6 @@
 -- Reading a written verdict line, and writing what was read. In this order: a begin or a commit, over any width; digits behind digits; a field of
 -- a written line; the written line read; a read line taken apart, and written; the line of a reply.
+use Rattle.std.specs.Prelude.{Result, Ok, Err, Option, Some, None}
 use Prim.Native.Nat.{ℕ, ◌+◌, ◌%◌, ◌≤◌, ◌<◌}
 use mathlib.Core.Path.{◌≡◌, refl, sym, ap, ◌∙◌}
 use mathlib.Core.Bool.{Bool, true, false}
@@ -18,28 +19,22 @@ use Rattle.digits.proofs.Inverse.{written_digits_read, read_digits_write}
 use Rattle.digits.proofs.Numbers.{digits_said, said_digits}
 use Rattle.line.specs.Line.{kind_width, place_width, thread_width, locks_width, frame_at, thread_at, begin_at, commit_at, locks_at, line_end, line_length, absent_in, mark_field, field_mark, reply_fields, fields_line, MarkTold}
 use Rattle.line.specs.declared.Fields.{Fields}
-use Rattle.line.specs.declared.LineMark.{LineMark}
-use Rattle.line.specs.declared.LineMark.TheVariants as mark
 use Rattle.line.proofs.Laws.{length_fields_line}
-use Rattle.reply.specs.declared.Reply.{Reply}
+use Rattle.reply.specs.Reply.{Reply}
 use Rattle.kept.specs.Kept.{kept_by}
-use Rattle.kept.specs.declared.Kept.TheVariants as kept
 use Rattle.kept.proofs.Laws.{reply_told}
 use Rattle.fields.specs.Fields.{is_kind, no_line, number_in, line_fields, written_line}
-use Rattle.fields.specs.declared.FieldsReply.{FieldsReply}
-use Rattle.fields.specs.declared.FieldsReply.TheVariants as fields
-use Rattle.fields.specs.declared.LineReply.{LineReply}
-use Rattle.fields.specs.declared.LineReply.TheVariants as line
 use Rattle.roundtrip.specs.Lines.{read_back, MarkHeld, WrittenMarksRead, Held, fields_back, WrittenLineReads, ReadLineWrites, KeptLinesTell}
+use Rattle.frame.specs.declared.Refused.{Refused}
 
 -- a begin or a commit, in n digits
-mark_held : (n : ℕ) (m : LineMark) → MarkHeld n m → mark_field n m < too_wide n
-mark_held n (mark.At i) h = h
-mark_held n mark.Absent h = omega (arith, one-le-pow n 16 (omega arith))
+mark_held : (n : ℕ) (m : Option ℕ) → MarkHeld n m → mark_field n m < too_wide n
+mark_held n (Some i) h = h
+mark_held n None h = omega (arith, one-le-pow n 16 (omega arith))
 
-mark_back : (n : ℕ) (m : LineMark) → field_mark n (mark_field n m) ≡ read_back n m
-mark_back n (mark.At i) = refl
-mark_back n mark.Absent = rw (eq-eqb (absent_in n) (absent_in n) refl)
+mark_back : (n : ℕ) (m : Option ℕ) → field_mark n (mark_field n m) ≡ read_back n m
+mark_back n (Some i) = refl
+mark_back n None = rw (eq-eqb (absent_in n) (absent_in n) refl)
 
 -- A written begin or commit reads back, whatever the number of digits.
 pub written_marks_read : WrittenMarksRead
@@ -151,7 +146,7 @@ module _ (f : Fields) (h : Held f) where
       (field_digits place_width (mark_field place_width f.commit) commit_held))
       (field_digits locks_width f.locks h.locks))
 
-  pub line_back : is_kind f.kind ≡ true → line_fields (fields_line f) ≡ fields.Read (fields_back f)
+  pub line_back : is_kind f.kind ≡ true → line_fields (fields_line f) ≡ Ok (fields_back f)
   unfolding line_fields
   line_back k =
       rw (eq-eqb (length (fields_line f)) line_length (length_fields_line f), eq-eqb (get_or (fields_line f) line_end 0) 10 line_feed, line_digits)
@@ -161,7 +156,7 @@ module _ (f : Fields) (h : Held f) where
 pub written_line_reads : WrittenLineReads
 written_line_reads f h e = go (is_kind f.kind) refl
   where
-    go : (b : Bool) → is_kind f.kind ≡ b → line_fields (written_line f).line ≡ fields.Read (fields_back f)
+    go : (b : Bool) → is_kind f.kind ≡ b → line_fields (written_line f).line ≡ Ok (fields_back f)
     go true k = rw k (line_back f h k)
     go false k = let z : ◌≡◌ {A = LineReply} (line.Refused no_line) line.Written = rw k at e in never (cc)
 
@@ -217,7 +212,7 @@ unfolding line_fields
 read_line_writes l f e =
     go (eqb (length l) line_length) refl (eqb (get_or l line_end 0) 10) refl (all_digits (take line_end l)) refl (is_kind (number_in l 0 kind_width)) refl
   where
-    no : {A : Type 0} → ◌≡◌ {A = FieldsReply} (fields.Refused no_line) (fields.Read f) → A
+    no : {A : Type 0} → ◌≡◌ {A = (Result Fields Refused)} (Err no_line) (Ok f) → A
     no z = never (cc)
 
     go : (a : Bool) → eqb (length l) line_length ≡ a → (b : Bool) → eqb (get_or l line_end 0) 10 ≡ b → (c : Bool) → all_digits (take line_end l) ≡ c
@@ -228,28 +223,28 @@ read_line_writes l f e =
     go true p true q true r false k = no (rw (p, q, r, k) at e)
     go true p true q true r true k =
         let g = fields_again l (eqb-true (length l) line_length p) (eqb-true (get_or l line_end 0) 10 q) r in
-        let z : fields.Read g ≡ fields.Read f = rw (p, q, r, k) at e in
+        let z : ◌≡◌ {A = Result Fields Refused} (Ok g) (Ok f) = rw (p, q, r, k) at e in
         let s : g ≡ f = cc in
         rw (← s, k, line_again l (eqb-true (length l) line_length p) (eqb-true (get_or l line_end 0) 10 q) r)
 
 -- a begin or a commit that its digits tell reads back as it is
-told_held : (n : ℕ) (m : LineMark) → MarkTold n m → MarkHeld n m
-told_held n (mark.At i) h = omega arith
-told_held n mark.Absent h = tt
+told_held : (n : ℕ) (m : Option ℕ) → MarkTold n m → MarkHeld n m
+told_held n (Some i) h = omega arith
+told_held n None h = tt
 
-told_back : (n : ℕ) (m : LineMark) → MarkTold n m → read_back n m ≡ m
-told_back n (mark.At i) h = rw (ne_eqb i (absent_in n) (λ e. omega arith))
-told_back n mark.Absent h = refl
+told_back : (n : ℕ) (m : Option ℕ) → MarkTold n m → read_back n m ≡ m
+told_back n (Some i) h = rw (ne_eqb i (absent_in n) (λ e. omega arith))
+told_back n None h = refl
 
 -- a kind that tells a reply reads
-told_kind : (k : ℕ) (f : Fields) (r : Reply) → kept_by k f ≡ kept.Reply r → is_kind k ≡ true
+told_kind : (k : ℕ) (f : Fields) (r : Reply) → kept_by k f ≡ Ok r → is_kind k ≡ true
 unfolding kept_by
 told_kind k f r e = go (ltb k 5) refl (ltb k 129) refl
   where
     go : (a : Bool) → ltb k 5 ≡ a → (b : Bool) → ltb k 129 ≡ b → is_kind k ≡ true
     go true p b q = rw p
     go false p true q =
-        let z : kept.Other (k % 128) ≡ kept.Reply r = rw (ne_eqb k 0 (λ (h : k ≡ 0). omega (arith, h, ltb-false k 5 p)), p, q) at e in never (cc)
+        let z : ◌≡◌ {A = Result Reply ℕ} (Err (k % 128)) (Ok r) = rw (ne_eqb k 0 (λ (h : k ≡ 0). omega (arith, h, ltb-false k 5 p)), p, q) at e in never (cc)
     go false p false q = rw p (lt-ltb 128 k (ltb-false k 129 q))
 
 -- The line of a reply tells it.

@@ -1,5 +1,6 @@
 -- A frame passes in sequence exactly if figure 4 has a step for it. In this order: the state that an action leads to, how an action stands in
 -- sequence, what follows from its answer and what the answer follows from, the claim.
+use Rattle.std.specs.Prelude.{Ok, Err}
 use Prim.Native.Nat.{ℕ, ◌+◌, ◌-◌, ◌≤◌, ◌<◌}
 use mathlib.Core.Path.{◌≡◌, refl, ap, subst}
 use mathlib.Core.Bool.{Bool, true, false, cond}
@@ -17,7 +18,6 @@ use Rattle.frame.specs.declared.Refusal.TheVariants as refusal
 use Rattle.soundness.specs.Soundness.{State, state_of, owner_of, count_of, with_count, with_owner, Stepped, stepped, step_action, step_frame}
 use Rattle.soundness.specs.declared.Level.{Level}
 use Rattle.soundness.specs.declared.Level.TheVariants.{Outer, Inner}
-use Rattle.soundness.specs.declared.Outcome.TheVariants as outcome
 use Rattle.rules.specs.Figures.{Acts, act_read, act_write, act_acquire, act_release, act_reentrant_acquire, act_reentrant_release, act_other_begin, act_other_end, BelowLimit, SoundnessIsOfTheRules}
 
 -- The state that an action leads to where it has a step.
@@ -46,12 +46,12 @@ acts_to (act_other_end h) = refl
 module _ (s : State) (t : ℕ) where
   -- How an action stands in sequence: it has a step below the limits, or it is refused for want of one or at a limit.
   data Stands : Action → Stepped → Type 0 where
-    passes : {a : Action} {x : Level} {n : State} → Acts s t a n → BelowLimit s t a → Stands a (stepped (outcome.Next x) n)
-    taken : {m : Lock} → (owner_of m s ≡ 0 → ⊥) → (owner_of m s ≡ t + 1 → ⊥) → Stands (action.Acquire m) (stepped (outcome.Bad refusal.LockTaken) s)
-    too_often : {m : Lock} → owner_of m s ≡ t + 1 → most_held ≤ count_of m s → Stands (action.Acquire m) (stepped (outcome.Bad refusal.TooOften) s)
-    not_held : {m : Lock} → (owner_of m s ≡ t + 1 → ⊥) → Stands (action.Release m) (stepped (outcome.Bad refusal.LockNotHeld) s)
-    too_deep : deepest ≤ get_or s.depths t 0 → Stands action.Begin (stepped (outcome.Bad refusal.TooDeep) s)
-    none_open : get_or s.depths t 0 ≡ 0 → Stands action.End (stepped (outcome.Bad refusal.NoOpenBlock) s)
+    passes : {a : Action} {x : Level} {n : State} → Acts s t a n → BelowLimit s t a → Stands a (stepped (Ok x) n)
+    taken : {m : Lock} → (owner_of m s ≡ 0 → ⊥) → (owner_of m s ≡ t + 1 → ⊥) → Stands (action.Acquire m) (stepped (Err refusal.LockTaken) s)
+    too_often : {m : Lock} → owner_of m s ≡ t + 1 → most_held ≤ count_of m s → Stands (action.Acquire m) (stepped (Err refusal.TooOften) s)
+    not_held : {m : Lock} → (owner_of m s ≡ t + 1 → ⊥) → Stands (action.Release m) (stepped (Err refusal.LockNotHeld) s)
+    too_deep : deepest ≤ get_or s.depths t 0 → Stands action.Begin (stepped (Err refusal.TooDeep) s)
+    none_open : get_or s.depths t 0 ≡ 0 → Stands action.End (stepped (Err refusal.NoOpenBlock) s)
 
   -- each action by its tests
   acquire_stands : (m : Lock) (a b d : Bool) → eqb (owner_of m s) 0 ≡ a → eqb (owner_of m s) (t + 1) ≡ b → leb most_held (count_of m s) ≡ d
@@ -102,7 +102,7 @@ module _ (s : State) (t : ℕ) where
   no_end e n (act_other_end h) = omega arith
 
   -- what follows from the answer
-  next_acts : {a : Action} {x : Stepped} {y : Level} → Stands a x → x.outcome ≡ outcome.Next y → Acts s t a x.state × BelowLimit s t a
+  next_acts : {a : Action} {x : Stepped} {y : Level} → Stands a x → x.outcome ≡ Ok y → Acts s t a x.state × BelowLimit s t a
   next_acts (passes y b) q = (y, b)
   next_acts (taken h g) q = never (cc)
   next_acts (too_often e h) q = never (cc)
@@ -110,7 +110,7 @@ module _ (s : State) (t : ℕ) where
   next_acts (too_deep h) q = never (cc)
   next_acts (none_open h) q = never (cc)
 
-  taken_acquire : {a : Action} {x : Stepped} → Stands a x → x.outcome ≡ outcome.Bad refusal.LockTaken
+  taken_acquire : {a : Action} {x : Stepped} → Stands a x → x.outcome ≡ Err refusal.LockTaken
       → (m : Lock) × (a ≡ action.Acquire m) × ((n : State) → Acts s t a n → ⊥)
   taken_acquire (passes y b) q = never (cc)
   taken_acquire (taken {m = m} h g) q = (m, refl, no_acquire m h g)
@@ -119,7 +119,7 @@ module _ (s : State) (t : ℕ) where
   taken_acquire (too_deep h) q = never (cc)
   taken_acquire (none_open h) q = never (cc)
 
-  too_often_acquire : {a : Action} {x : Stepped} → Stands a x → x.outcome ≡ outcome.Bad refusal.TooOften
+  too_often_acquire : {a : Action} {x : Stepped} → Stands a x → x.outcome ≡ Err refusal.TooOften
       → (m : Lock) × (a ≡ action.Acquire m) × (owner_of m s ≡ t + 1) × (most_held ≤ count_of m s)
   too_often_acquire (passes y b) q = never (cc)
   too_often_acquire (taken h g) q = never (cc)
@@ -128,7 +128,7 @@ module _ (s : State) (t : ℕ) where
   too_often_acquire (too_deep h) q = never (cc)
   too_often_acquire (none_open h) q = never (cc)
 
-  not_held_release : {a : Action} {x : Stepped} → Stands a x → x.outcome ≡ outcome.Bad refusal.LockNotHeld
+  not_held_release : {a : Action} {x : Stepped} → Stands a x → x.outcome ≡ Err refusal.LockNotHeld
       → (m : Lock) × (a ≡ action.Release m) × ((n : State) → Acts s t a n → ⊥)
   not_held_release (passes y b) q = never (cc)
   not_held_release (taken h g) q = never (cc)
@@ -137,7 +137,7 @@ module _ (s : State) (t : ℕ) where
   not_held_release (too_deep h) q = never (cc)
   not_held_release (none_open h) q = never (cc)
 
-  too_deep_begin : {a : Action} {x : Stepped} → Stands a x → x.outcome ≡ outcome.Bad refusal.TooDeep → (a ≡ action.Begin) × (deepest ≤ get_or s.depths t 0)
+  too_deep_begin : {a : Action} {x : Stepped} → Stands a x → x.outcome ≡ Err refusal.TooDeep → (a ≡ action.Begin) × (deepest ≤ get_or s.depths t 0)
   too_deep_begin (passes y b) q = never (cc)
   too_deep_begin (taken h g) q = never (cc)
   too_deep_begin (too_often e h) q = never (cc)
@@ -145,7 +145,7 @@ module _ (s : State) (t : ℕ) where
   too_deep_begin (too_deep h) q = (refl, h)
   too_deep_begin (none_open h) q = never (cc)
 
-  none_open_end : {a : Action} {x : Stepped} → Stands a x → x.outcome ≡ outcome.Bad refusal.NoOpenBlock
+  none_open_end : {a : Action} {x : Stepped} → Stands a x → x.outcome ≡ Err refusal.NoOpenBlock
       → (a ≡ action.End) × ((n : State) → Acts s t a n → ⊥)
   none_open_end (passes y b) q = never (cc)
   none_open_end (taken h g) q = never (cc)
@@ -155,7 +155,7 @@ module _ (s : State) (t : ℕ) where
   none_open_end (none_open h) q = (refl, no_end h)
 
   -- what the answer follows from
-  acts_next : {a : Action} {n : State} → Acts s t a n → BelowLimit s t a → (x : Level) × (step_action t a s ≡ stepped (outcome.Next x) n)
+  acts_next : {a : Action} {n : State} → Acts s t a n → BelowLimit s t a → (x : Level) × (step_action t a s ≡ stepped (Ok x) n)
   unfolding step_action
   acts_next act_read b = (Outer, refl)
   acts_next act_write b = (Outer, refl)
@@ -167,7 +167,7 @@ module _ (s : State) (t : ℕ) where
   acts_next (act_other_end h) b = (Outer, rw (ne_eqb (get_or s.depths t 0) 0 (omega arith)))
 
   acquire_taken : {a : Action} {x : Stepped} → Stands a x → (m : Lock) → a ≡ action.Acquire m → ((n : State) → Acts s t a n → ⊥)
-      → x.outcome ≡ outcome.Bad refusal.LockTaken
+      → x.outcome ≡ Err refusal.LockTaken
   acquire_taken (passes {n = n} y b) m e none = absurd (none n y)
   acquire_taken (taken h g) m e none = refl
   acquire_taken (too_often q h) m e none = absurd (none _ (act_reentrant_acquire q))
@@ -176,7 +176,7 @@ module _ (s : State) (t : ℕ) where
   acquire_taken (none_open h) m e none = never (cc)
 
   acquire_too_often : {a : Action} {x : Stepped} → Stands a x → (m : Lock) → a ≡ action.Acquire m → owner_of m s ≡ t + 1 → most_held ≤ count_of m s
-      → x.outcome ≡ outcome.Bad refusal.TooOften
+      → x.outcome ≡ Err refusal.TooOften
   acquire_too_often (passes y b) m e o l = let c : owner_of m s ≡ t + 1 → count_of m s < most_held = rw e at b in absurd (omega (arith, c o))
   acquire_too_often (taken {m = k} h g) m e o l = let z : k ≡ m = cc in absurd (g (rw z o))
   acquire_too_often (too_often q h) m e o l = refl
@@ -185,7 +185,7 @@ module _ (s : State) (t : ℕ) where
   acquire_too_often (none_open h) m e o l = never (cc)
 
   release_not_held : {a : Action} {x : Stepped} → Stands a x → (m : Lock) → a ≡ action.Release m → ((n : State) → Acts s t a n → ⊥)
-      → x.outcome ≡ outcome.Bad refusal.LockNotHeld
+      → x.outcome ≡ Err refusal.LockNotHeld
   release_not_held (passes {n = n} y b) m q none = absurd (none n y)
   release_not_held (taken h g) m q none = never (cc)
   release_not_held (too_often e h) m q none = never (cc)
@@ -193,7 +193,7 @@ module _ (s : State) (t : ℕ) where
   release_not_held (too_deep h) m q none = never (cc)
   release_not_held (none_open h) m q none = never (cc)
 
-  begin_too_deep : {a : Action} {x : Stepped} → Stands a x → a ≡ action.Begin → deepest ≤ get_or s.depths t 0 → x.outcome ≡ outcome.Bad refusal.TooDeep
+  begin_too_deep : {a : Action} {x : Stepped} → Stands a x → a ≡ action.Begin → deepest ≤ get_or s.depths t 0 → x.outcome ≡ Err refusal.TooDeep
   begin_too_deep (passes y b) q d = let c : get_or s.depths t 0 < deepest = rw q at b in absurd (omega arith)
   begin_too_deep (taken h g) q d = never (cc)
   begin_too_deep (too_often e h) q d = never (cc)
@@ -201,7 +201,7 @@ module _ (s : State) (t : ℕ) where
   begin_too_deep (too_deep h) q d = refl
   begin_too_deep (none_open h) q d = never (cc)
 
-  end_none_open : {a : Action} {x : Stepped} → Stands a x → a ≡ action.End → ((n : State) → Acts s t a n → ⊥) → x.outcome ≡ outcome.Bad refusal.NoOpenBlock
+  end_none_open : {a : Action} {x : Stepped} → Stands a x → a ≡ action.End → ((n : State) → Acts s t a n → ⊥) → x.outcome ≡ Err refusal.NoOpenBlock
   end_none_open (passes {n = n} y b) q none = absurd (none n y)
   end_none_open (taken h g) q none = never (cc)
   end_none_open (too_often e h) q none = never (cc)
@@ -210,13 +210,13 @@ module _ (s : State) (t : ℕ) where
   end_none_open (none_open h) q none = refl
 
 -- a frame that passes has a step below the limits
-passes_acts : (f : Frame) (s n : State) (x : Level) → step_frame f s ≡ stepped (outcome.Next x) n
+passes_acts : (f : Frame) (s n : State) (x : Level) → step_frame f s ≡ stepped (Ok x) n
     → Acts s f.thread.0 f.action n × BelowLimit s f.thread.0 f.action
 passes_acts f s n x e =
     let p = next_acts s f.thread.0 (stands s f.thread.0 f.action) (ap (λ (y : Stepped). y.outcome) e) in
     (subst (Acts s f.thread.0 f.action) (ap (λ (y : Stepped). y.state) e) p.0, p.1)
 
-pub frame_acts : {f : Frame} {s n : State} {x : Level} → step_frame f s ≡ stepped (outcome.Next x) n → Acts s f.thread.0 f.action n
+pub frame_acts : {f : Frame} {s n : State} {x : Level} → step_frame f s ≡ stepped (Ok x) n → Acts s f.thread.0 f.action n
 frame_acts {f} {s} {n} {x} e = (passes_acts f s n x e).0
 
 -- Soundness in sequence is that of figure 4's rules, but for the limits.

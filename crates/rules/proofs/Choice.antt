@@ -1,5 +1,6 @@
 -- Inferred guards find a recording reducible exactly if some choice of one lock for each variable does. In this order: the guards of a choice,
 -- one operation judged on both sides, one frame, the sets that a pass leaves, the whole pass on both sides, the claims.
+use Rattle.std.specs.Prelude.{Result, Ok, Err}
 use Prim.Native.Nat.{ℕ, zero, suc, ◌+◌, ◌≤◌, ◌<◌}
 use mathlib.Core.Path.{◌≡◌, refl, sym, ap, ◌∙◌, subst}
 use mathlib.Core.Bool.{Bool, true, false, cond}
@@ -24,18 +25,12 @@ use Rattle.frame.specs.declared.Variable.{Variable}
 use Rattle.frame.specs.declared.Frame.{Frame}
 use Rattle.frame.specs.declared.Action.{Action}
 use Rattle.frame.specs.declared.Action.TheVariants as action
-use Rattle.frame.specs.declared.Decoded.{Decoded}
-use Rattle.frame.specs.declared.Decoded.TheVariants as decoded
 use Rattle.guards.specs.Guards.{guard_of, unprotected_code, inferred_code, inferred_guards}
 use Rattle.guards.specs.declared.Guard.{Guard}
 use Rattle.guards.specs.declared.Guard.TheVariants as guard
-use Rattle.reply.specs.Reply.{refused, reducible, violated}
+use Rattle.reply.specs.Reply.{refused, reducible, violated, Verdict}
 use Rattle.reply.specs.declared.Violation.{Violation}
-use Rattle.reply.specs.declared.Verdict.{Verdict}
-use Rattle.reply.specs.declared.Verdict.TheVariants as verdict
 use Rattle.soundness.specs.Soundness.{State, step_frame, level_of, start}
-use Rattle.soundness.specs.declared.Outcome.{Outcome}
-use Rattle.soundness.specs.declared.Outcome.TheVariants as outcome
 use Rattle.soundness.specs.declared.Level.{Level}
 use Rattle.soundness.specs.declared.Level.TheVariants as level
 use Rattle.instrumented.specs.Rules.{Phase, outside, before, after, Judging, judging_of, Judged, judged, phase_at, contains, with_commit, committed, acquire_in, unprotected_in, judge_operation}
@@ -47,6 +42,7 @@ use Rattle.pass.proofs.Judgement.{judgement_pass, judgement_sound}
 use Rattle.verdict.proofs.Laws.{own_table}
 use Rattle.rules.specs.Choice.{Reducible, Choice, choose, InferredIsSomeChoice, InferredVerdictIsSomeChoice}
 use Rattle.rules.proofs.Bits.{and_holds, and_holds_both, not_empty, full_holds, some_lock}
+use Rattle.frame.specs.declared.Refusal.{Refusal}
 
 -- the lock chosen for a variable
 abbrev lock_of : List ℕ → ℕ → Lock
@@ -193,29 +189,29 @@ at_set P sets v s long p q x h = go (ℕ_discrete x v)
     go (no n) = rw (get_or-set_other sets v x s 0 n) (q x h)
 
 -- which way a test went, where one way goes wrong
-then_wrong : (b : Bool) (x y : Judged) (w : Violation) → x.verdict ≡ verdict.Violated w → (cond b x y).verdict ≡ verdict.Reducible → b ≡ false
+then_wrong : (b : Bool) (x y : Judged) (w : Violation) → x.verdict ≡ Err w → (cond b x y).verdict ≡ (Ok tt) → b ≡ false
 then_wrong true x y w p e = never (cc)
 then_wrong false x y w p e = refl
 
-else_wrong : (b : Bool) (x y : Judged) (w : Violation) → y.verdict ≡ verdict.Violated w → (cond b x y).verdict ≡ verdict.Reducible → b ≡ true
+else_wrong : (b : Bool) (x y : Judged) (w : Violation) → y.verdict ≡ Err w → (cond b x y).verdict ≡ (Ok tt) → b ≡ true
 else_wrong true x y w p e = refl
 else_wrong false x y w p e = never (cc)
 
 -- What an operation leads to on both sides, x with inferred guards and y with the chosen locks: both go on alike, y leaves its sets as they
 -- are, and the chosen locks are in the sets of x before and after.
 record Matched (locks sets : List ℕ) (j : Judging) (x y : Judged) : Type 0 where
-  right : x.verdict ≡ verdict.Reducible
+  right : x.verdict ≡ (Ok tt)
   same : y ≡ resets sets x
   had : Has locks j.sets
   kept : Has locks x.judging.sets
 
 module _ (i : ℕ) (t : Thread) (d h : ℕ) where
   -- an access under a lock goes wrong unless the thread holds it
-  held_right : (m : Lock) (j : Judging) → contains h m ≡ true → judge_operation i t d h (Protected m) j ≡ judged verdict.Reducible j
+  held_right : (m : Lock) (j : Judging) → contains h m ≡ true → judge_operation i t d h (Protected m) j ≡ judged (Ok tt) j
   unfolding judge_operation
   held_right m j e = rw e
 
-  right_held : (m : Lock) (j : Judging) → (judge_operation i t d h (Protected m) j).verdict ≡ verdict.Reducible → contains h m ≡ true
+  right_held : (m : Lock) (j : Judging) → (judge_operation i t d h (Protected m) j).verdict ≡ (Ok tt) → contains h m ≡ true
   unfolding judge_operation
   right_held m j e = else_wrong (contains h m) _ _ _ refl e
 
@@ -241,16 +237,16 @@ module _ (i : ℕ) (t : Thread) (d h : ℕ) where
     holds_shared v m p = and_holds_both (get_or j.sets v.0 0) h m p
 
     -- an access under an inferred guard goes wrong where they share none
-    shared_right : (v : Variable) → (shared v ≡ 0 → ⊥) → judge_operation i t d h (Inferred v) j ≡ judged verdict.Reducible (with_sets (set j.sets v.0 (shared v)) j)
+    shared_right : (v : Variable) → (shared v ≡ 0 → ⊥) → judge_operation i t d h (Inferred v) j ≡ judged (Ok tt) (with_sets (set j.sets v.0 (shared v)) j)
     unfolding judge_operation shared
     shared_right v e = rw (ne_eqb (shared v) 0 e)
 
-    right_shared : (v : Variable) → (judge_operation i t d h (Inferred v) j).verdict ≡ verdict.Reducible → shared v ≡ 0 → ⊥
+    right_shared : (v : Variable) → (judge_operation i t d h (Inferred v) j).verdict ≡ (Ok tt) → shared v ≡ 0 → ⊥
     unfolding judge_operation shared
     right_shared v e = eqb-false (shared v) 0 (then_wrong (eqb (shared v) 0) _ _ _ refl e)
 
     -- no set becomes empty
-    stays_full : {o : Operation} → Seen o → (judge_operation i t d h o j).verdict ≡ verdict.Reducible → Full j.sets
+    stays_full : {o : Operation} → Seen o → (judge_operation i t d h o j).verdict ≡ (Ok tt) → Full j.sets
         → Full (judge_operation i t d h o j).judging.sets
     stays_full {o} (plain k) e f = rw (plain_kept o k) f
     stays_full (inferred v b) e f = rw (shared_right v (right_shared v e)) record {
@@ -261,7 +257,7 @@ module _ (i : ℕ) (t : Thread) (d h : ℕ) where
 
     module _ (locks sets : List ℕ) where
       -- both sides go on from sets that have the chosen locks
-      plain_matched : (o : Operation) → Plain o → (judge_operation i t d h o j).verdict ≡ verdict.Reducible → Has locks j.sets
+      plain_matched : (o : Operation) → Plain o → (judge_operation i t d h o j).verdict ≡ (Ok tt) → Has locks j.sets
           → Matched locks sets j (judge_operation i t d h o j) (judge_operation i t d h (chosen locks o) (with_sets sets j))
       plain_matched o k e f = record {
         right = e;
@@ -286,7 +282,7 @@ module _ (i : ℕ) (t : Thread) (d h : ℕ) where
           }
 
       -- from the sets after an operation that does not go wrong with inferred guards
-      infers : {o : Operation} → Seen o → (judge_operation i t d h o j).verdict ≡ verdict.Reducible → Has locks (judge_operation i t d h o j).judging.sets
+      infers : {o : Operation} → Seen o → (judge_operation i t d h o j).verdict ≡ (Ok tt) → Has locks (judge_operation i t d h o j).judging.sets
           → Matched locks sets j (judge_operation i t d h o j) (judge_operation i t d h (chosen locks o) (with_sets sets j))
       infers {o} (plain k) e f = plain_matched o k e (rw (plain_kept o k) at f)
       infers (inferred v b) e f =
@@ -304,7 +300,7 @@ module _ (i : ℕ) (t : Thread) (d h : ℕ) where
           go m g x p (no n) = rw (get_or-set_other j.sets v.0 x (shared v) 0 n) at (g.has x p)
 
       -- from the sets before an operation that does not go wrong with the chosen locks
-      allows : {o : Operation} → Seen o → (judge_operation i t d h (chosen locks o) (with_sets sets j)).verdict ≡ verdict.Reducible → Has locks j.sets
+      allows : {o : Operation} → Seen o → (judge_operation i t d h (chosen locks o) (with_sets sets j)).verdict ≡ (Ok tt) → Has locks j.sets
           → Matched locks sets j (judge_operation i t d h o j) (judge_operation i t d h (chosen locks o) (with_sets sets j))
       allows {o} (plain k) e f = plain_matched o k (sym (ap (λ (x : Judged). x.verdict) (plain_resets i t d h o k sets j)) ∙ (rw (k locks) at e)) f
       allows (inferred v b) e f = inferred_matched v b (right_held (lock_of locks v.0) (with_sets sets j) e) f
@@ -316,10 +312,10 @@ same_reply e = ap (λ (x : Ended). x.reply) e
 -- A frame after which a pass goes on.
 pub record Goes (guards : List ℕ) (i : ℕ) (s : State) (j : Judging) (w : ℕ) : Type 0 where
   pub frame : Frame
-  pub is : decode_word w ≡ decoded.Frame frame
+  pub is : decode_word w ≡ Ok frame
   pub level : Level
-  pub sound : (step_frame frame s).outcome ≡ outcome.Next level
-  pub right : (judge_frame guards i frame s j).verdict ≡ verdict.Reducible
+  pub sound : (step_frame frame s).outcome ≡ Ok level
+  pub right : (judge_frame guards i frame s j).verdict ≡ (Ok tt)
 
 module _ (guards : List ℕ) (i : ℕ) (s : State) (j : Judging) (w : ℕ) (ws : List ℕ) where
   -- the pass goes on from the state that the frame leads to
@@ -333,18 +329,18 @@ module _ (guards : List ℕ) (i : ℕ) (s : State) (j : Judging) (w : ℕ) (ws :
   unfolding judge_from
   goes r = decode_case (decode_word w) refl
     where
-      judge_case : (f : Frame) → decode_word w ≡ decoded.Frame f → (x : Level) → (step_frame f s).outcome ≡ outcome.Next x
+      judge_case : (f : Frame) → decode_word w ≡ Ok f → (x : Level) → (step_frame f s).outcome ≡ Ok x
           → (v : Verdict) → (judge_frame guards i f s j).verdict ≡ v → Goes guards i s j w
-      judge_case f e x g verdict.Reducible a = record { frame = f; is = e; level = x; sound = g; right = a }
-      judge_case f e x g (verdict.Violated v) a = let z : violated v ≡ reducible = rw (e, a, g) at r in never (cc)
+      judge_case f e x g (Ok tt) a = record { frame = f; is = e; level = x; sound = g; right = a }
+      judge_case f e x g (Err v) a = let z : violated v ≡ reducible = rw (e, a, g) at r in never (cc)
 
-      step_case : (f : Frame) → decode_word w ≡ decoded.Frame f → (o : Outcome) → (step_frame f s).outcome ≡ o → Goes guards i s j w
-      step_case f e (outcome.Next x) g = judge_case f e x g (judge_frame guards i f s j).verdict refl
-      step_case f e (outcome.Bad b) g = let z : refused b i ≡ reducible = rw (e, g) at r in never (cc)
+      step_case : (f : Frame) → decode_word w ≡ Ok f → (o : Result Level Refusal) → (step_frame f s).outcome ≡ o → Goes guards i s j w
+      step_case f e (Ok x) g = judge_case f e x g (judge_frame guards i f s j).verdict refl
+      step_case f e (Err b) g = let z : refused b i ≡ reducible = rw (e, g) at r in never (cc)
 
-      decode_case : (d : Decoded) → decode_word w ≡ d → Goes guards i s j w
-      decode_case (decoded.Frame f) e = step_case f e (step_frame f s).outcome refl
-      decode_case (decoded.Bad b) e = let z : refused b i ≡ reducible = rw e at r in never (cc)
+      decode_case : (d : Result Frame Refusal) → decode_word w ≡ d → Goes guards i s j w
+      decode_case (Ok f) e = step_case f e (step_frame f s).outcome refl
+      decode_case (Err b) e = let z : refused b i ≡ reducible = rw e at r in never (cc)
 
 -- the sets that a reducible pass leaves are not empty
 ends_full : (guards : List ℕ) (i : ℕ) (s : State) (j : Judging) (ws : List ℕ) → (judge_from guards i s j ws).reply ≡ reducible → Full j.sets
@@ -358,7 +354,7 @@ ends_full guards i s j (w ∷ ws) e f =
     rw on (ends_full guards (i + 1) _ _ ws (sym (same_reply on) ∙ e) full)
 
 module _ (guards locks : List ℕ) (c : Choice locks) (sets : List ℕ) where
-  module _ (i : ℕ) (s : State) (j : Judging) (w : ℕ) (f : Frame) (e : decode_word w ≡ decoded.Frame f) where
+  module _ (i : ℕ) (s : State) (j : Judging) (w : ℕ) (f : Frame) (e : decode_word w ≡ Ok f) where
     -- the frame's operation, and what it is under the chosen locks
     abbrev here : Operation
     here = operation_of guards (level_of (step_frame f s).outcome) f.action
@@ -373,16 +369,16 @@ module _ (guards locks : List ℕ) (c : Choice locks) (sets : List ℕ) where
         (operation_chosen guards locks c (level_of (step_frame f s).outcome) f.action)
 
     -- a frame that does not go wrong on one side does not on the other
-    frame_infers : (judge_frame guards i f s j).verdict ≡ verdict.Reducible → Has locks (judge_frame guards i f s j).judging.sets
+    frame_infers : (judge_frame guards i f s j).verdict ≡ (Ok tt) → Has locks (judge_frame guards i f s j).judging.sets
         → Matched locks sets j (judge_frame guards i f s j) (judge_frame (choose guards locks) i f s (with_sets sets j))
     frame_infers r h = rw frame_chosen (infers i f.thread _ _ j locks sets frame_seen r h)
 
-    frame_allows : (judge_frame (choose guards locks) i f s (with_sets sets j)).verdict ≡ verdict.Reducible → Has locks j.sets
+    frame_allows : (judge_frame (choose guards locks) i f s (with_sets sets j)).verdict ≡ (Ok tt) → Has locks j.sets
         → Matched locks sets j (judge_frame guards i f s j) (judge_frame (choose guards locks) i f s (with_sets sets j))
     frame_allows r h = rw frame_chosen (allows i f.thread _ _ j locks sets frame_seen (rw frame_chosen at r) h)
 
     -- how the two passes go on
-    module _ (ws : List ℕ) (x : Level) (q : (step_frame f s).outcome ≡ outcome.Next x)
+    module _ (ws : List ℕ) (x : Level) (q : (step_frame f s).outcome ≡ Ok x)
         (m : Matched locks sets j (judge_frame guards i f s j) (judge_frame (choose guards locks) i f s (with_sets sets j))) where
       inferred_on : judge_from guards i s j (w ∷ ws) ≡ judge_from guards (i + 1) (step_frame f s).state (judge_frame guards i f s j).judging ws
       inferred_on = goes_on guards i s j w ws record { frame = f; is = e; level = x; sound = q; right = m.right }
@@ -461,7 +457,7 @@ inferred_is_some_choice guards ws = (to, from)
   where
     to : Reducible guards ws → (locks : List ℕ) × Choice locks × Reducible (choose guards locks) ws
     to r =
-        let sound = judgement_sound guards full_sets ws verdict.Reducible r in
+        let sound = judgement_sound guards full_sets ws (Ok tt) r in
         let run : (judge_from guards 0 start (start_judging full_sets) ws).reply ≡ reducible = sym (same_reply (judgement_pass guards full_sets ws sound)) ∙ r in
         let left = (judge_from guards 0 start (start_judging full_sets) ws).judging.sets in
         let full : Full left = ends_full guards 0 start (start_judging full_sets) ws run full_start in
@@ -477,7 +473,7 @@ inferred_is_some_choice guards ws = (to, from)
 
     from : (locks : List ℕ) × Choice locks × Reducible (choose guards locks) ws → Reducible guards ws
     from (locks, c, r) =
-        let sound = judgement_sound (choose guards locks) full_sets ws verdict.Reducible r in
+        let sound = judgement_sound (choose guards locks) full_sets ws (Ok tt) r in
         let run : (judge_from (choose guards locks) 0 start (start_judging full_sets) ws).reply ≡ reducible =
         sym (same_reply (judgement_pass (choose guards locks) full_sets ws sound)) ∙ r in
         same_reply (judgement_pass guards full_sets ws sound)

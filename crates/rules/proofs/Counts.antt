@@ -1,4 +1,5 @@
 -- A lock has a count exactly if it has an owner, and one of 1 to 15. In this order: a store to a lock, one action, frames, the claim.
+use Rattle.std.specs.Prelude.{Ok}
 use Prim.Native.Nat.{ℕ, ◌+◌, ◌-◌, ◌≤◌, ◌<◌}
 use mathlib.Core.Path.{◌≡◌, refl, sym, ap, ◌∙◌}
 use mathlib.Core.Logic.{◌⊎◌, inl, inr}
@@ -17,9 +18,7 @@ use Rattle.frame.specs.declared.Refusal.TheVariants as refusal
 use Rattle.frame.proofs.Laws.{decoded_in_range}
 use Rattle.laws.proofs.Lists.{get_or_set, get_or_filled}
 use Rattle.soundness.specs.Soundness.{State, owner_of, count_of, with_count, with_owner, nested, Stepped, stepped, step_action, check_from, start}
-use Rattle.soundness.specs.declared.CheckReply.TheVariants as check
 use Rattle.soundness.specs.declared.Level.{Level}
-use Rattle.soundness.specs.declared.Outcome.TheVariants as outcome
 use Rattle.soundness.proofs.Laws.{check_short, sound_fits, sound_first, spared, Acquired, took, took_again, acquired, Released, freed, let_go, released}
 use Rattle.rules.specs.Figures.{LocksAreCounted}
 
@@ -72,7 +71,7 @@ module _ (s : State) (k : Counts s) (l : Lock) (small : l.0 < lock_count) where
   counted_release t (let_go e h) = put_count (count_of l s - 1) (omega arith) (omega arith) (omega (arith, most (k.are l small) (omega arith)))
 
 -- one action that passes
-pub counted_next : (t : ℕ) (a : Action) (s n : State) (x : Level) → ObjectInRange a → Counts s → step_action t a s ≡ stepped (outcome.Next x) n → Counts n
+pub counted_next : (t : ℕ) (a : Action) (s n : State) (x : Level) → ObjectInRange a → Counts s → step_action t a s ≡ stepped (Ok x) n → Counts n
 unfolding step_action
 counted_next t (action.Acquire l) s n x r k e = counted_acquire s k l r t (acquired t l s e)
 counted_next t (action.Release l) s n x r k e = counted_release s k l r t (released t l s e)
@@ -86,7 +85,7 @@ counted_next t action.End s n x r k e =
     rw p.1 record { owners_long = k.owners_long; counts_long = k.counts_long; are = k.are }
 
 -- sound frames
-counted_from : (i : ℕ) (s : State) (ws : List ℕ) → (check_from i s ws).reply ≡ check.Sound → Counts s → Counts (check_from i s ws).state
+counted_from : (i : ℕ) (s : State) (ws : List ℕ) → (check_from i s ws).reply ≡ (Ok tt) → Counts s → Counts (check_from i s ws).state
 unfolding check_from
 counted_from i s [] c k = k
 counted_from i s (w ∷ ws) c k =

@@ -1,6 +1,7 @@
 -- The verdict on a sound recording is that of the rules of the paper's figures. In this order: the rules as a function, so that a frame steps
 -- to one store or goes wrong by one kind; recordings by that function; the pass and the rules, with the claim of any guards; guards that agree
 -- on the variables of frames, with the claims of declared and of inferred guards.
+use Rattle.std.specs.Prelude.{Result, Ok, Err, Option, Some, None}
 use Prim.Native.Nat.{ℕ, suc, ◌+◌, ◌≤◌, ◌<◌}
 use mathlib.Core.Path.{◌≡◌, refl, sym, ap, subst, ◌∙◌, fun_ext}
 use mathlib.Core.Bool.{cond}
@@ -23,23 +24,15 @@ use Rattle.frame.specs.declared.Variable.{Variable}
 use Rattle.frame.specs.declared.Action.{Action}
 use Rattle.frame.specs.declared.Action.TheVariants as action
 use Rattle.frame.specs.declared.Frame.{Frame}
-use Rattle.frame.specs.declared.Decoded.{Decoded}
-use Rattle.frame.specs.declared.Decoded.TheVariants as decoded
 use Rattle.guards.specs.Guards.{guard_of, guards_read, listed_guard, inferred_code, inferred_guards}
 use Rattle.guards.proofs.Named.{listed_guard_lem}
 use Rattle.guards.specs.declared.Guard.{Guard}
 use Rattle.guards.specs.declared.Guard.TheVariants.{Locked, Unprotected, Inferred}
-use Rattle.guards.specs.declared.GuardsReply.TheVariants as guards_reply
 use Rattle.soundness.specs.Soundness.{State, owner_of, count_of, check_from, check_reply, start}
-use Rattle.soundness.specs.declared.CheckReply.TheVariants as check
 use Rattle.soundness.proofs.Laws.{check_short, sound_fits, First, sound_first}
-use Rattle.reply.specs.Reply.{reducible, violated}
+use Rattle.reply.specs.Reply.{reducible, violated, Reply}
 use Rattle.reply.specs.declared.Kind.{Kind}
 use Rattle.reply.specs.declared.Kind.TheVariants.{GuardNotHeld, UnprotectedAfterCommit, AcquireAfterCommit, SetEmptied}
-use Rattle.reply.specs.declared.Mark.{Mark}
-use Rattle.reply.specs.declared.Mark.TheVariants.{At, Absent}
-use Rattle.reply.specs.declared.Reply.{Reply}
-use Rattle.reply.specs.declared.Reply.TheVariants as reply
 use Rattle.reply.specs.declared.Violation.{Violation}
 use Rattle.instrumented.specs.Rules.{Judging, phase_at, begin_mark, commit_mark}
 use Rattle.rules.specs.Figures.{Acts, Stage, Outside, PreCommit, PostCommit, Store, put_stage, put_locks, depth, shared, Accesses, reads, writes, Steps, ins_access_protected, ins_race_commit, ins_race_outside, ins_acquire, ins_release_commit, ins_release_outside, ins_reentrant_acquire, ins_reentrant_release, ins_enter, ins_nested_enter, ins_exit, ins_nested_exit, ins2_access, Wrong, wrong_access_protected, wrong_race_violate, wrong_acquire, wrong2_race, AllStep, end, step, WrongAt, here, later, Reaches, none, more, start_store, guarding, InBlock, Committed, MarkIs, guard_locks, lock_set, ToldBy, OfTheRules, VerdictIsOfTheRules, DeclaredIsOfTheRules, InferredIsOfTheRules}
@@ -50,6 +43,7 @@ use Rattle.rules.proofs.Acts.{acted, acts_to, frame_acts}
 use Rattle.rules.proofs.Store.{store_of, Sized}
 use Rattle.rules.proofs.Marks.{Knows, knows_next, begin_is, commit_is}
 use Rattle.rules.proofs.Told.{Told, goes, wrong, frame_told}
+use Rattle.frame.specs.declared.Refusal.{Refusal}
 
 -- What the rules make of an operation.
 pub data Result : Type 0 where
@@ -140,9 +134,9 @@ abbrev on_result : Result → (Store → Answer) → Answer
 on_result (to φ) rest = onward (rest φ)
 on_result (amiss k) rest = first 0 k
 
-abbrev on_frame : Decoded → (Frame → Answer) → Answer
-on_frame (decoded.Frame f) rest = rest f
-on_frame (decoded.Bad r) rest = fine
+abbrev on_frame : Result Frame Refusal → (Frame → Answer) → Answer
+on_frame (Ok f) rest = rest f
+on_frame (Err r) rest = fine
 
 module _ (P : ℕ → Guard) where
   -- the answer from a state and a store on
@@ -183,7 +177,7 @@ named guards i s j f k = record {
 }
 
 told_here : (guards whole : List ℕ) (i w : ℕ) (ws : List ℕ) (s : State) (j : Judging) (f : Frame) (k : Kind) → Knows (guarding guards) whole i s j
-    → drop i whole ≡ w ∷ ws → decode_word w ≡ decoded.Frame f → Wrong (guarding guards) s (store_of s.depths j) f.thread.0 f.action k
+    → drop i whole ≡ w ∷ ws → decode_word w ≡ Ok f → Wrong (guarding guards) s (store_of s.depths j) f.thread.0 f.action k
     → ToldBy (guarding guards) whole (named guards i s j f k)
 told_here guards whole i w ws s j f k x e d r = record {
   state = s;
@@ -200,7 +194,7 @@ told_here guards whole i w ws s j f k x e d r = record {
 
 -- a pass over sound frames ends so
 ends : (guards whole : List ℕ) (i : ℕ) (s : State) (j : Judging) (ws : List ℕ) → drop i whole ≡ ws → Knows (guarding guards) whole i s j
-    → (check_from i s ws).reply ≡ check.Sound → Sized s.depths j → Ends guards whole i s j ws
+    → (check_from i s ws).reply ≡ (Ok tt) → Sized s.depths j → Ends guards whole i s j ws
 unfolding judge_from
 ends guards whole i s j [] o x c z = all refl end
 ends guards whole i s j (w ∷ ws) o x c z =
@@ -245,12 +239,12 @@ start_knows guards ws = record {
 }
 
 -- a sound recording ends so from the start
-start_ends : (guards ws : List ℕ) → check_reply ws ≡ check.Sound → Ends guards ws 0 start (start_judging full_sets) ws
+start_ends : (guards ws : List ℕ) → check_reply ws ≡ (Ok tt) → Ends guards ws 0 start (start_judging full_sets) ws
 start_ends guards ws e =
     ends guards ws 0 start (start_judging full_sets) ws refl (start_knows guards ws) (sym (check_short ws (sound_fits ws e)) ∙ e) start_sized
 
 -- the reply of its judgement
-judged_reply : (guards ws : List ℕ) → check_reply ws ≡ check.Sound → (judgement guards full_sets ws).reply ≡ (judge_from guards 0 start (start_judging full_sets) ws).reply
+judged_reply : (guards ws : List ℕ) → check_reply ws ≡ (Ok tt) → (judgement guards full_sets ws).reply ≡ (judge_from guards 0 start (start_judging full_sets) ws).reply
 judged_reply guards ws e = ap (λ (x : Ended). x.reply) (judgement_pass guards full_sets ws e)
 
 -- Term 2's first sentence: the verdict on a sound recording is that of the rules.
@@ -345,13 +339,13 @@ module _ (P Q : ℕ → Guard) (same : (x : ℕ) → x < variable_count → P x 
   same_reaches none = none
   same_reaches (more {w = w} {f = f} d e r rest) = more d e (same_steps P Q (alike (decoded_in_range w f d).object) r) (same_reaches rest)
 
-  same_mark_lem : (ws : List ℕ) (t : ℕ) (R : Stage → Type 0) (i : ℕ) (m : Mark) → MarkIs P ws t R i m → MarkIs Q ws t R i m
-  same_mark_lem ws t R i (At b) h = record {
+  same_mark_lem : (ws : List ℕ) (t : ℕ) (R : Stage → Type 0) (i : ℕ) (m : Option ℕ) → MarkIs P ws t R i m → MarkIs Q ws t R i m
+  same_mark_lem ws t R i (Some b) h = record {
     within = h.within;
     not_before = let (s, φ, r, q) = h.not_before in (s, φ, same_reaches r, q);
     from_there = λ k l g. let (s, φ, r, q) = h.from_there k l g in (s, φ, same_reaches r, q);
   }
-  same_mark_lem ws t R i Absent (s, φ, r, q) = (s, φ, same_reaches r, q)
+  same_mark_lem ws t R i None (s, φ, r, q) = (s, φ, same_reaches r, q)
 
   same_locks : (φ : Store) (a : Action) → ObjectInRange a → lock_set P φ a ≡ lock_set Q φ a
   same_locks φ (action.Acquire m) h = refl
@@ -389,7 +383,7 @@ with_same P Q same ws r (a, b, c) = (
     back x h = sym (same x h)
 
 -- an accepted list, and a table with room, leave the judgement's reply
-pub accepted : (list ws : List ℕ) (n : ℕ) → (guards_read list).reply ≡ guards_reply.Lines n → verdict_under Declared list ws ≡ (judgement (guards_read list).table full_sets ws).reply
+pub accepted : (list ws : List ℕ) (n : ℕ) → (guards_read list).reply ≡ Ok n → verdict_under Declared list ws ≡ (judgement (guards_read list).table full_sets ws).reply
 unfolding verdict_under
 accepted list ws n e = rw e
 
@@ -398,8 +392,8 @@ unfolding inferred_reply
 with_room ws m h = go (judgement inferred_guards full_sets ws).reply
   where
     go : (r : Reply) → with_table r m ≡ r
-    go (reply.Refused x) = refl
-    go (reply.Judged v) = rw (le-ltb m variable_count h)
+    go (Err x) = refl
+    go (Ok v) = rw (le-ltb m variable_count h)
 
 -- the guards of the inferred verdict
 all_inferred : (x : ℕ) → x < variable_count → guarding inferred_guards x ≡ Inferred

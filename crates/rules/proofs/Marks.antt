@@ -1,5 +1,6 @@
 -- The marks that a violation has. In this order: what a frame leaves of the begins and commits of the pass, one frame more by the rules,
 -- since when a stage holds, what the pass knows of the frames before a place.
+use Rattle.std.specs.Prelude.{Ok}
 use Prim.Native.Nat.{ℕ, suc, ◌+◌, ◌-◌, ◌≤◌, ◌<◌}
 use mathlib.Core.Path.{◌≡◌, refl, sym, subst}
 use mathlib.Core.Bool.{Bool, true, false, cond}
@@ -13,7 +14,6 @@ use lib.ListN.{length, get_or, set, drop}
 use Rattle.frame.specs.Frame.{decode_word}
 use Rattle.frame.specs.declared.Frame.{Frame}
 use Rattle.frame.specs.declared.Thread.{Thread}
-use Rattle.frame.specs.declared.Decoded.TheVariants as decoded
 use Rattle.guards.specs.declared.Guard.{Guard}
 use Rattle.soundness.specs.Soundness.{State, start}
 use Rattle.instrumented.specs.Rules.{Judging, phase_at, committed, begin_mark, commit_mark}
@@ -89,7 +89,7 @@ commit_done d c i false e false f = rw (e, f) (λ q. inl (refl, refl))
 
 -- one frame more, of which the word is the next
 pub one_more : {P : ℕ → Guard} {s m n : State} {φ ψ χ : Store} {all : List ℕ} {i w : ℕ} {ws : List ℕ} {f : Frame} → Reaches P s φ all i m ψ
-    → drop i all ≡ w ∷ ws → decode_word w ≡ decoded.Frame f → Acts m f.thread.0 f.action n → Steps P m ψ f.thread.0 f.action χ
+    → drop i all ≡ w ∷ ws → decode_word w ≡ Ok f → Acts m f.thread.0 f.action n → Steps P m ψ f.thread.0 f.action χ
     → Reaches P s φ all (suc i) n χ
 one_more none e d a r = rw e (more d a r none)
 one_more (more d' a' r' rest) e d a r = more d' a' r' (one_more rest e d a r)
@@ -126,7 +126,7 @@ module _ (P : ℕ → Guard) (all : List ℕ) where
     pub done : (u : ℕ) → Committed ((store_of s.depths j).stage u) → Since P all u Committed i (get_or j.commits u 0 - 1)
 
   -- so it does before the next frame
-  pub knows_next : {i w : ℕ} {ws : List ℕ} {f : Frame} {s n : State} {j k : Judging} → Knows i s j → drop i all ≡ w ∷ ws → decode_word w ≡ decoded.Frame f
+  pub knows_next : {i w : ℕ} {ws : List ℕ} {f : Frame} {s n : State} {j k : Judging} → Knows i s j → drop i all ≡ w ∷ ws → decode_word w ≡ Ok f
       → Acts s f.thread.0 f.action n → Steps P s (store_of s.depths j) f.thread.0 f.action (store_of n.depths k)
       → Marked i s.depths j n.depths k → Knows (i + 1) n k
   knows_next {i = i} x e d a r m =

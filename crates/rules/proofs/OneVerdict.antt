@@ -1,5 +1,6 @@
 -- The rules leave one verdict on a recording. In this order: the frames before a place lead to one state and one store, a stage holds since
 -- one frame, one violation, the claim.
+use Rattle.std.specs.Prelude.{Ok, Err, Option, Some, None, Result}
 use Prim.Native.Nat.{ℕ, ◌<◌}
 use mathlib.Core.Path.{◌≡◌, refl, sym, ap, subst, ◌∙◌}
 use mathlib.Core.Bool.{Bool, true, false}
@@ -10,17 +11,14 @@ use lib.Dec.{ltb}
 use lib.ListN.{get_or}
 use Rattle.frame.specs.Frame.{decode_word}
 use Rattle.frame.specs.declared.Frame.{Frame}
-use Rattle.frame.specs.declared.Decoded.TheVariants as decoded
 use Rattle.guards.specs.declared.Guard.{Guard}
 use Rattle.soundness.specs.Soundness.{State, start}
-use Rattle.reply.specs.declared.Mark.{Mark}
-use Rattle.reply.specs.declared.Mark.TheVariants.{At, Absent}
-use Rattle.reply.specs.declared.Verdict.TheVariants as verdict
 use Rattle.reply.specs.declared.Violation.{Violation}
 use Rattle.laws.proofs.Logic.{never}
 use Rattle.rules.specs.Figures.{Stage, Store, Acts, Steps, Reaches, none, more, start_store, InBlock, Committed, StageAfter, Since, MarkIs, lock_set, ToldBy, RulesFixTheReply}
 use Rattle.rules.proofs.Acts.{acted, acts_to}
 use Rattle.rules.proofs.Figures.{to, rule, steps_rule}
+use Rattle.frame.specs.declared.Refusal.{Refusal}
 
 module _ (P : ℕ → Guard) where
   -- a frame leads to one state and one store
@@ -37,7 +35,7 @@ module _ (P : ℕ → Guard) where
   one_place : {s m n : State} {φ ψ χ : Store} {ws : List ℕ} {i : ℕ} → Reaches P s φ ws i m ψ → Reaches P s φ ws i n χ → (m ≡ n) × (ψ ≡ χ)
   one_place none none = (refl, refl)
   one_place (more {ws = ws} {f = f} {i = i} d a r x) (more {m = n} {ψ = χ} {f = g} e b q y) =
-      let z : decoded.Frame f ≡ decoded.Frame g = sym d ∙ e in
+      let z : ◌≡◌ {A = Result Frame Refusal} (Ok f) (Ok g) = sym d ∙ e in
       let h : f ≡ g = cc in
       let k = one_state h a b in
       let l = one_store h r q in
@@ -52,16 +50,16 @@ module _ (P : ℕ → Guard) where
     not_less : {i b c : ℕ} → Since P ws t Q i b → Since P ws t Q i c → b < c → ⊥
     not_less {c = c} x y l = one_answer (x.from_there c l (omega (arith, y.within))) y.not_before
 
-    one_mark : (i : ℕ) (m n : Mark) → MarkIs P ws t Q i m → MarkIs P ws t Q i n → m ≡ n
-    one_mark i (At b) (At c) x y = ap At (go (ltb b c) refl (ltb c b) refl)
+    one_mark : (i : ℕ) (m n : Option ℕ) → MarkIs P ws t Q i m → MarkIs P ws t Q i n → m ≡ n
+    one_mark i (Some b) (Some c) x y = ap Some (go (ltb b c) refl (ltb c b) refl)
       where
         go : (p : Bool) → ltb b c ≡ p → (q : Bool) → ltb c b ≡ q → b ≡ c
         go true e q f = absurd (not_less x y (ltb-true b c e))
         go false e true f = absurd (not_less y x (ltb-true c b f))
         go false e false f = omega (arith, ltb-false b c e, ltb-false c b f)
-    one_mark i (At b) Absent x y = absurd (one_answer (x.from_there i x.within (omega arith)) y)
-    one_mark i Absent (At c) x y = absurd (one_answer (y.from_there i y.within (omega arith)) x)
-    one_mark i Absent Absent x y = refl
+    one_mark i (Some b) None x y = absurd (one_answer (x.from_there i x.within (omega arith)) y)
+    one_mark i None (Some c) x y = absurd (one_answer (y.from_there i y.within (omega arith)) x)
+    one_mark i None None x y = refl
 
 -- a violation is its six parts
 of_parts : (v u : Violation) → v.kind ≡ u.kind → v.frame ≡ u.frame → v.thread ≡ u.thread → v.begin ≡ u.begin → v.commit ≡ u.commit → v.locks ≡ u.locks → v ≡ u
@@ -70,7 +68,7 @@ of_parts v u a b c d e f = rw (sym a, sym b, sym c, sym d, sym e, sym f)
 -- the rules tell one violation of a kind at a frame
 one_violation : (P : ℕ → Guard) (ws : List ℕ) (v u : Violation) → v.kind ≡ u.kind → v.frame ≡ u.frame → ToldBy P ws v → ToldBy P ws u → v ≡ u
 one_violation P ws v u a p x y =
-    let z : decoded.Frame x.frame ≡ decoded.Frame y.frame = sym x.word ∙ ap (λ (i : ℕ). decode_word (get_or ws i 0)) p ∙ y.word in
+    let z : ◌≡◌ {A = Result Frame Refusal} (Ok x.frame) (Ok y.frame) = sym x.word ∙ ap (λ (i : ℕ). decode_word (get_or ws i 0)) p ∙ y.word in
     let f : x.frame ≡ y.frame = cc in
     let r = (one_place P x.reached (subst (λ (i : ℕ). Reaches P start start_store ws i y.state y.store) (sym p) y.reached)).1 in
     of_parts v u a p
@@ -79,16 +77,16 @@ one_violation P ws v u a p x y =
     (one_mark P ws x.frame.thread.0 Committed v.frame v.commit u.commit x.commit (there Committed u.commit f y.commit))
     (x.locks ∙ ap (λ (φ : Store). lock_set P φ x.frame.action) r ∙ ap (λ (g : Frame). lock_set P y.store g.action) f ∙ sym y.locks)
   where
-    there : (Q : Stage → Type 0) (m : Mark) {f g : Frame} → f ≡ g → MarkIs P ws g.thread.0 Q u.frame m → MarkIs P ws f.thread.0 Q v.frame m
+    there : (Q : Stage → Type 0) (m : Option ℕ) {f g : Frame} → f ≡ g → MarkIs P ws g.thread.0 Q u.frame m → MarkIs P ws f.thread.0 Q v.frame m
     there Q m {f} {g} e h =
         subst (λ (g : Frame). MarkIs P ws g.thread.0 Q v.frame m) (sym e) (subst (λ (i : ℕ). MarkIs P ws g.thread.0 Q i m) (sym p) h)
 
 -- The rules leave one verdict.
 pub rules_fix_the_reply : RulesFixTheReply
-rules_fix_the_reply P ws verdict.Reducible verdict.Reducible (a, b, c) (d, e, f) = refl
-rules_fix_the_reply P ws verdict.Reducible (verdict.Violated u) (a, b, c) (d, e, f) = let y = d.1 (a.0 refl) in never (cc)
-rules_fix_the_reply P ws (verdict.Violated v) verdict.Reducible (a, b, c) (d, e, f) = let y = a.1 (d.0 refl) in never (cc)
-rules_fix_the_reply P ws (verdict.Violated v) (verdict.Violated u) (a, b, c) (d, e, f) =
+rules_fix_the_reply P ws (Ok tt) (Ok tt) (a, b, c) (d, e, f) = refl
+rules_fix_the_reply P ws (Ok tt) (Err u) (a, b, c) (d, e, f) = let y = d.1 (a.0 refl) in never (cc)
+rules_fix_the_reply P ws (Err v) (Ok tt) (a, b, c) (d, e, f) = let y = a.1 (d.0 refl) in never (cc)
+rules_fix_the_reply P ws (Err v) (Err u) (a, b, c) (d, e, f) =
     let (w, y, g, h) = (e v.frame v.kind).1 ((b v.frame v.kind).0 (v, refl, refl, refl)) in
     let z : u ≡ w = cc in
-    ap verdict.Violated (one_violation P ws v u (sym h ∙ ap (λ (x : Violation). x.kind) (sym z)) (sym g ∙ ap (λ (x : Violation). x.frame) (sym z)) (c v refl) (f u refl))
+    ap Err (one_violation P ws v u (sym h ∙ ap (λ (x : Violation). x.kind) (sym z)) (sym g ∙ ap (λ (x : Violation). x.frame) (sym z)) (c v refl) (f u refl))

@@ -1,4 +1,5 @@
 -- One frame: what the pass makes of it is what the rules say of it.
+use Rattle.std.specs.Prelude.{Ok}
 use Prim.Native.Nat.{ℕ, ◌+◌, ◌-◌, ◌≤◌, ◌<◌}
 use mathlib.Core.Path.{◌≡◌, refl, sym, ap, ◌∙◌}
 use mathlib.Core.Bool.{Bool, true, false}
@@ -25,9 +26,7 @@ use Rattle.guards.specs.declared.Guard.{Guard}
 use Rattle.guards.specs.declared.Guard.TheVariants as guard
 use Rattle.reply.specs.declared.Kind.{Kind}
 use Rattle.reply.specs.declared.Kind.TheVariants.{GuardNotHeld, UnprotectedAfterCommit, AcquireAfterCommit, SetEmptied}
-use Rattle.reply.specs.declared.Verdict.TheVariants as verdict
 use Rattle.soundness.specs.Soundness.{State, owner_of, count_of, nested, Stepped, stepped, step_action, step_frame}
-use Rattle.soundness.specs.declared.Outcome.TheVariants as outcome
 use Rattle.soundness.specs.declared.Level.{Level}
 use Rattle.soundness.proofs.Laws.{spared, Acquired, took, took_again, acquired, Released, freed, let_go, released}
 use Rattle.instrumented.specs.Rules.{Judging, judging_of, Judged, judged, phase_at, violation, contains, committed, with_commit, acquire_in, unprotected_in, judge_operation}
@@ -49,7 +48,7 @@ commit_of j t = get_or j.commits t.0 0
 -- What the pass makes of a frame of thread t, x: it goes on in the state whose store the rules give, with marks by the stages of that store,
 -- or it names the kind of the rule that goes wrong, its thread, the marks of its thread's phase, and the locks that the rules name.
 pub data Told (P : ℕ → Guard) (s : State) (depths : List ℕ) (j : Judging) (i : ℕ) (t : Thread) (a : Action) (x : Judged) : Type 0 where
-  goes : {k : Judging} → x ≡ judged verdict.Reducible k → Steps P s (store_of s.depths j) t.0 a (store_of depths k) → Sized depths k
+  goes : {k : Judging} → x ≡ judged (Ok tt) k → Steps P s (store_of s.depths j) t.0 a (store_of depths k) → Sized depths k
       → Marked i s.depths j depths k → Told P s depths j i t a x
   wrong : (k : Kind) → x ≡ judged (violation k i t (phase_at (depth_of s t) t j) (lock_set P (store_of s.depths j) a)) j
       → Wrong P s (store_of s.depths j) t.0 a k → Told P s depths j i t a x
@@ -93,7 +92,7 @@ module _ (guards : List ℕ) (s : State) (j : Judging) (z : Sized s.depths j) (i
 
   -- a release, by the test of the depth
   release_told : (l : Lock) → count_of l s ≤ 1 → (p : Bool) → eqb (depth_of s t) 0 ≡ p
-      → Told (guarding guards) s s.depths j i t (action.Release l) (judged verdict.Reducible (with_commit t (committed (depth_of s t) (commit_of j t) i) j))
+      → Told (guarding guards) s s.depths j i t (action.Release l) (judged (Ok tt) (with_commit t (committed (depth_of s t) (commit_of j t) i) j))
   release_told l h true e = goes refl (rw (committed_outside e) (ins_release_outside h (rw e))) (committed_sized _) committed_marked
   release_told l h false e = goes refl (rw (committed_inside e) (ins_release_commit h (stage_in (depth_of s t) (commit_of j t) e))) (committed_sized _) committed_marked
 
@@ -221,7 +220,7 @@ module _ (guards : List ℕ) (s : State) (j : Judging) (z : Sized s.depths j) (i
   released_told l (freed e h) = release_told l h (eqb (depth_of s t) 0) refl
   released_told l (let_go e h) = inner_told l e (ins_reentrant_release e h)
 
-  action_told : (n : State) (a : Action) (x : Level) → ObjectInRange a → step_action t.0 a s ≡ stepped (outcome.Next x) n → Passed x n a
+  action_told : (n : State) (a : Action) (x : Level) → ObjectInRange a → step_action t.0 a s ≡ stepped (Ok x) n → Passed x n a
   unfolding step_action
   action_told n (action.Acquire l) x h e = acquired_told l (acquired t.0 l s e)
   action_told n (action.Release l) x h e = released_told l (released t.0 l s e)
@@ -236,6 +235,6 @@ module _ (guards : List ℕ) (s : State) (j : Judging) (z : Sized s.depths j) (i
 
 -- The pass makes of a frame that passes what the rules say of it.
 pub frame_told : (guards : List ℕ) (s n : State) (j : Judging) (i : ℕ) (f : Frame) (x : Level) → Sized s.depths j → InRange f
-    → step_frame f s ≡ stepped (outcome.Next x) n
+    → step_frame f s ≡ stepped (Ok x) n
     → Told (guarding guards) s n.depths j i f.thread f.action (judge_frame guards i f s j)
 frame_told guards s n j i f x z r e = rw e (action_told guards s j z i f.thread r.thread n f.action x r.object e)

@@ -5,7 +5,7 @@
 -- In this order: figure 4 and the claims of sound frames and of counts, the stores, figures 8 and 11, recordings, what a violation names, the
 -- claims of the verdicts.
 -- Quotes are from docs/FORMAT.md, but for those of the paper's sections 2.2 and 4.3 and figures.
-use Rattle.std.specs.Prelude.{ℕ, suc, ◌+◌, ◌-◌, ◌^◌, ◌≤◌, ◌<◌, ◌≡◌, cond, ◌↔◌, ◌⊎◌, List, [], ◌∷◌, eqb, get_or, set}
+use Rattle.std.specs.Prelude.{ℕ, suc, ◌+◌, ◌-◌, ◌^◌, ◌≤◌, ◌<◌, ◌≡◌, cond, ◌↔◌, ◌⊎◌, List, [], ◌∷◌, eqb, get_or, set, Ok, Err, Option, Some, None}
 use Rattle.std.specs.Int.Bits.{bit_and}
 use Rattle.guards.specs.declared.Judgement.TheVariants.{Declared}
 use Rattle.frame.specs.Limits.{lock_count, variable_count, deepest, most_held}
@@ -15,24 +15,15 @@ use Rattle.frame.specs.declared.Variable.{Variable}
 use Rattle.frame.specs.declared.Action.{Action}
 use Rattle.frame.specs.declared.Action.TheVariants as action
 use Rattle.frame.specs.declared.Frame.{Frame}
-use Rattle.frame.specs.declared.Decoded.TheVariants as decoded
 use Rattle.frame.specs.declared.Refusal.TheVariants as refusal
 use Rattle.guards.specs.Guards.{guard_of, guards_read, listed_guard}
 use Rattle.guards.specs.declared.Guard.{Guard}
 use Rattle.guards.specs.declared.Guard.TheVariants.{Locked, Unprotected, Inferred}
-use Rattle.guards.specs.declared.GuardsReply.TheVariants as guards_reply
 use Rattle.soundness.specs.Soundness.{State, state_of, owner_of, count_of, with_count, with_owner, stepped, step_frame, check_from, check_reply, start}
 use Rattle.soundness.specs.declared.Level.{Level}
-use Rattle.soundness.specs.declared.Outcome.TheVariants as outcome
-use Rattle.soundness.specs.declared.CheckReply.TheVariants as check
-use Rattle.reply.specs.Reply.{reducible, violated}
+use Rattle.reply.specs.Reply.{reducible, violated, Reply, Verdict}
 use Rattle.reply.specs.declared.Kind.{Kind}
 use Rattle.reply.specs.declared.Kind.TheVariants.{GuardNotHeld, UnprotectedAfterCommit, AcquireAfterCommit, SetEmptied}
-use Rattle.reply.specs.declared.Mark.{Mark}
-use Rattle.reply.specs.declared.Mark.TheVariants.{At, Absent}
-use Rattle.reply.specs.declared.Reply.{Reply}
-use Rattle.reply.specs.declared.Reply.TheVariants as reply
-use Rattle.reply.specs.declared.Verdict.{Verdict}
 use Rattle.reply.specs.declared.Violation.{Violation}
 use Rattle.instrumented.specs.Held.{held_set}
 use Rattle.pass.specs.Pass.{full_sets, judgement}
@@ -78,12 +69,12 @@ NoStep f s = (n : State) → Acts s f.thread.0 f.action n → ⊥
 abbrev pub SoundnessIsOfTheRules : Type 0
 SoundnessIsOfTheRules =
     (f : Frame) (s : State)
-    → ((n : State) → ((x : Level) × (step_frame f s ≡ stepped (outcome.Next x) n)) ↔ (Acts s f.thread.0 f.action n × BelowLimit s f.thread.0 f.action))
-    × ((step_frame f s).outcome ≡ outcome.Bad refusal.LockTaken ↔ ((m : Lock) × (f.action ≡ action.Acquire m) × NoStep f s))
-    × ((step_frame f s).outcome ≡ outcome.Bad refusal.LockNotHeld ↔ ((m : Lock) × (f.action ≡ action.Release m) × NoStep f s))
-    × ((step_frame f s).outcome ≡ outcome.Bad refusal.TooDeep ↔ ((f.action ≡ action.Begin) × (deepest ≤ get_or s.depths f.thread.0 0)))
-    × ((step_frame f s).outcome ≡ outcome.Bad refusal.NoOpenBlock ↔ ((f.action ≡ action.End) × NoStep f s))
-    × ((step_frame f s).outcome ≡ outcome.Bad refusal.TooOften
+    → ((n : State) → ((x : Level) × (step_frame f s ≡ stepped (Ok x) n)) ↔ (Acts s f.thread.0 f.action n × BelowLimit s f.thread.0 f.action))
+    × ((step_frame f s).outcome ≡ Err refusal.LockTaken ↔ ((m : Lock) × (f.action ≡ action.Acquire m) × NoStep f s))
+    × ((step_frame f s).outcome ≡ Err refusal.LockNotHeld ↔ ((m : Lock) × (f.action ≡ action.Release m) × NoStep f s))
+    × ((step_frame f s).outcome ≡ Err refusal.TooDeep ↔ ((f.action ≡ action.Begin) × (deepest ≤ get_or s.depths f.thread.0 0)))
+    × ((step_frame f s).outcome ≡ Err refusal.NoOpenBlock ↔ ((f.action ≡ action.End) × NoStep f s))
+    × ((step_frame f s).outcome ≡ Err refusal.TooOften
     ↔ ((m : Lock) × (f.action ≡ action.Acquire m) × (owner_of m s ≡ f.thread.0 + 1) × (most_held ≤ count_of m s)))
 
 -- "A lock is free, or has an owner, the thread that holds it, and a count of how often it is held, 1 to 15": so is every lock after a sound
@@ -92,7 +83,7 @@ abbrev pub Counted : State → Lock → Type 0
 Counted s l = ((owner_of l s ≡ 0) × (count_of l s ≡ 0)) ⊎ ((0 < owner_of l s) × (0 < count_of l s) × (count_of l s ≤ most_held))
 
 abbrev pub LocksAreCounted : Type 0
-LocksAreCounted = (ws : List ℕ) → check_reply ws ≡ check.Sound → (l : Lock) → l.0 < lock_count → Counted (check_from 0 start ws).state l
+LocksAreCounted = (ws : List ℕ) → check_reply ws ≡ (Ok tt) → (l : Lock) → l.0 < lock_count → Counted (check_from 0 start ws).state l
 
 -- The paper's instrumentation store φ: the phase of each thread, and the candidate lock set of each variable.
 pub data Stage : Type 0 where
@@ -150,20 +141,20 @@ module _ (P : ℕ → Guard) where
   -- All frames of a recording step: [INS STEP T] of figure 9.
   pub data AllStep : State → Store → List ℕ → Type 0 where
     end : {s : State} {φ : Store} → AllStep s φ []
-    step : {s n : State} {φ φ' : Store} {w : ℕ} {ws : List ℕ} {f : Frame} → decode_word w ≡ decoded.Frame f → Acts s f.thread.0 f.action n
+    step : {s n : State} {φ φ' : Store} {w : ℕ} {ws : List ℕ} {f : Frame} → decode_word w ≡ Ok f → Acts s f.thread.0 f.action n
         → Steps P s φ f.thread.0 f.action φ' → AllStep n φ' ws → AllStep s φ (w ∷ ws)
 
   -- The first i frames of a recording step, and frame i goes wrong: [INS WRONG] of figure 9.
   pub data WrongAt : State → Store → List ℕ → ℕ → Kind → Type 0 where
-    here : {s n : State} {φ : Store} {w : ℕ} {ws : List ℕ} {f : Frame} {k : Kind} → decode_word w ≡ decoded.Frame f → Acts s f.thread.0 f.action n
+    here : {s n : State} {φ : Store} {w : ℕ} {ws : List ℕ} {f : Frame} {k : Kind} → decode_word w ≡ Ok f → Acts s f.thread.0 f.action n
         → Wrong P s φ f.thread.0 f.action k → WrongAt s φ (w ∷ ws) 0 k
-    later : {s n : State} {φ φ' : Store} {w : ℕ} {ws : List ℕ} {f : Frame} {i : ℕ} {k : Kind} → decode_word w ≡ decoded.Frame f → Acts s f.thread.0 f.action n
+    later : {s n : State} {φ φ' : Store} {w : ℕ} {ws : List ℕ} {f : Frame} {i : ℕ} {k : Kind} → decode_word w ≡ Ok f → Acts s f.thread.0 f.action n
         → Steps P s φ f.thread.0 f.action φ' → WrongAt n φ' ws i k → WrongAt s φ (w ∷ ws) (suc i) k
 
   -- The first i frames of a recording step, and lead to a state and a store.
   pub data Reaches : State → Store → List ℕ → ℕ → State → Store → Type 0 where
     none : {s : State} {φ : Store} {ws : List ℕ} → Reaches s φ ws 0 s φ
-    more : {s n m : State} {φ φ' ψ : Store} {w : ℕ} {ws : List ℕ} {f : Frame} {i : ℕ} → decode_word w ≡ decoded.Frame f → Acts s f.thread.0 f.action n
+    more : {s n m : State} {φ φ' ψ : Store} {w : ℕ} {ws : List ℕ} {f : Frame} {i : ℕ} → decode_word w ≡ Ok f → Acts s f.thread.0 f.action n
         → Steps P s φ f.thread.0 f.action φ' → Reaches n φ' ws i m ψ → Reaches s φ (w ∷ ws) (suc i) m ψ
 
 -- All threads are outside, and every candidate set is all 64 locks.
@@ -193,9 +184,9 @@ module _ (P : ℕ → Guard) (ws : List ℕ) (t : ℕ) where
     pub from_there : (k : ℕ) → b < k → k ≤ i → StageAfter k Q
 
   -- A mark of Q just before frame i: the frame that made it true, absent where it is not true.
-  abbrev pub MarkIs : (Stage → Type 0) → ℕ → Mark → Type 0
-  MarkIs Q i (At b) = Since Q i b
-  MarkIs Q i Absent = StageAfter i (λ g. Q g → ⊥)
+  abbrev pub MarkIs : (Stage → Type 0) → ℕ → Option ℕ → Type 0
+  MarkIs Q i (Some b) = Since Q i b
+  MarkIs Q i None = StageAfter i (λ g. Q g → ⊥)
 
 -- The locks that a violation names at an access, by the guard and the candidate set of its variable: "the guard alone", "none", "the
 -- variable's set just before the frame".
@@ -222,7 +213,7 @@ pub record ToldBy (P : ℕ → Guard) (ws : List ℕ) (v : Violation) : Type 0 w
   pub store : Store
   pub frame : Frame
   pub reached : Reaches P start start_store ws v.frame state store
-  pub word : decode_word (get_or ws v.frame 0) ≡ decoded.Frame frame
+  pub word : decode_word (get_or ws v.frame 0) ≡ Ok frame
   pub goes_wrong : Wrong P state store frame.thread.0 frame.action v.kind
   pub thread : v.thread ≡ frame.thread
   pub begin : MarkIs P ws frame.thread.0 InBlock v.frame v.begin
@@ -240,19 +231,19 @@ OfTheRules P ws r =
 
 -- Term 2's first sentence: the verdict on a sound recording is that of the rules, whatever the codes of the guards.
 abbrev pub VerdictIsOfTheRules : Type 0
-VerdictIsOfTheRules = (guards ws : List ℕ) → check_reply ws ≡ check.Sound → OfTheRules (guarding guards) ws (judgement guards full_sets ws).reply
+VerdictIsOfTheRules = (guards ws : List ℕ) → check_reply ws ≡ (Ok tt) → OfTheRules (guarding guards) ws (judgement guards full_sets ws).reply
 
 -- The same of the text of a guard list: the guards are those that its n lines name.
 abbrev pub DeclaredIsOfTheRules : Type 0
 DeclaredIsOfTheRules =
-    (list ws : List ℕ) (n : ℕ) → (guards_read list).reply ≡ guards_reply.Lines n → check_reply ws ≡ check.Sound
+    (list ws : List ℕ) (n : ℕ) → (guards_read list).reply ≡ Ok n → check_reply ws ≡ (Ok tt)
     → OfTheRules (listed_guard list n) ws (verdict_under Declared list ws)
 
 -- The same of the inferred verdict, with a table of m candidate sets: every guard is inferred.
 abbrev pub InferredIsOfTheRules : Type 0
-InferredIsOfTheRules = (ws : List ℕ) (m : ℕ) → check_reply ws ≡ check.Sound → variable_count ≤ m → OfTheRules (λ x. Inferred) ws (inferred_reply ws m)
+InferredIsOfTheRules = (ws : List ℕ) (m : ℕ) → check_reply ws ≡ (Ok tt) → variable_count ≤ m → OfTheRules (λ x. Inferred) ws (inferred_reply ws m)
 
 -- The rules leave one verdict on a recording: all that a violation names is fixed by them.
 abbrev pub RulesFixTheReply : Type 0
 RulesFixTheReply =
-    (P : ℕ → Guard) (ws : List ℕ) (v u : Verdict) → OfTheRules P ws (reply.Judged v) → OfTheRules P ws (reply.Judged u) → v ≡ u
+    (P : ℕ → Guard) (ws : List ℕ) (v u : Verdict) → OfTheRules P ws (Ok v) → OfTheRules P ws (Ok u) → v ≡ u

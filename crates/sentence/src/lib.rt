@@ -6,7 +6,7 @@ ghost use Rattle.std.specs.Prelude.{◌≡◌};
 ghost use Rattle.output.specs.Output.{Appended};
 ghost use Rattle.sentence.specs.Sentence.{piece, known, filled};
 
-use frame::{Decoded, Thread};
+use frame::{Frame, Refusal, Thread};
 use output::Text;
 use phrase::Source;
 
@@ -15,11 +15,11 @@ use phrase::Source;
 pub struct Facts {
     pub source: Source,
     pub place: u32,
-    pub frame: Decoded,
+    pub frame: Result<Frame, Refusal>,
     pub thread: Thread,
     pub begin: u32,
     pub commit: u32,
-    pub by: Decoded,
+    pub by: Result<Frame, Refusal>,
     pub locks: u64,
 }
 
@@ -44,10 +44,10 @@ fn put_piece(out: &mut Text<'_>, byte: u8, facts: Facts)
 }
 
 // Whether a frame is at hand.
-pub fn known(decoded: Decoded) -> bool
+pub fn known(decoded: Result<Frame, Refusal>) -> bool
     ensures { result ≡ known decoded }
 {
-    matches!(decoded, Decoded::Frame(_))
+    decoded.is_ok()
 }
 
 // A sentence with its slots filled in.

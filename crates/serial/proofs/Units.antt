@@ -1,4 +1,5 @@
 -- The loop of the unit writer: what a word shows of its frame, the invariant, and the laws of a turn.
+use Rattle.std.specs.Prelude.{Ok}
 use Prim.Native.Nat.{ℕ, ◌+◌, ◌/◌, ◌%◌, ◌<◌, ◌≤◌}
 use mathlib.Core.Path.{◌≡◌, refl, ◌∙◌, ap, subst}
 use mathlib.Core.Bool.{cond}
@@ -15,7 +16,6 @@ use Rattle.frame.specs.Frame.{action_of, decode_word}
 use Rattle.frame.specs.declared.Thread.{Thread}
 use Rattle.frame.proofs.Laws.{shown, Operation, acquire, release, read, write, begin, end, operation}
 use Rattle.soundness.specs.Soundness.{nest, check_reply}
-use Rattle.soundness.specs.declared.CheckReply.TheVariants as check
 use Rattle.exchange.specs.Exchange.{frame_of}
 use Rattle.exchange.proofs.Frames.{Decodes, sound_decodes}
 use Rattle.serial.specs.Walk.{mine, other, own_frame, depth_by, unit_from, unit_of}
@@ -41,7 +41,7 @@ own_word w e t d =
     rw (e, s.frame) (ap (λ (x : ℕ). cond (eqb (w / 65536 % 256) t.0) (mine x) other) p)
 
 -- A turn of the loop over a unit, over any element type: the frame at place i, of which the element is x, is of another thread or of this one.
-module _ {A : Type 0} (ws : List ℕ) (xs : List A) {x : A} (i : ℕ) (s : check_reply ws ≡ check.Sound) (h : i < length ws) (g : drop i xs ≡ x ∷ drop (i + 1) xs)
+module _ {A : Type 0} (ws : List ℕ) (xs : List A) {x : A} (i : ℕ) (s : check_reply ws ≡ (Ok tt)) (h : i < length ws) (g : drop i xs ≡ x ∷ drop (i + 1) xs)
     (t : Thread) (d : ℕ) where
   seen : own_frame (decode_word (get_or ws i 0)) t d ≡ cond (eqb (get_or ws i 0 / 65536 % 256) t.0) (mine (depth_by (get_or ws i 0 / 16777216) d)) other
   seen = own_word (get_or ws i 0) (sound_decodes ws s i h) t d
@@ -81,7 +81,7 @@ module _ {ws : List ℕ} {b : ℕ} {t : Thread} {out₀ out : List ℕ} {n d i :
   pub unit_ends : length ws ≤ i → Written out₀ out n (unit_of ws ws b t) []
   unit_ends h = left_is (unit_over ws ws t d i h)
 
-  module _ (s : check_reply ws ≡ check.Sound) (h : i < length ws) where
+  module _ (s : check_reply ws ≡ (Ok tt)) (h : i < length ws) where
     pub passes_over : (get_or ws i 0 / 65536 % 256 ≡ t.0 → ⊥) → UnitInv ws b t out₀ out n d (i + 1)
     passes_over e = record { low = omega (arith, inv.low); written = left_is (other_turn ws ws i s h (words_on ws i h) t d e) }
 

@@ -1,16 +1,15 @@
 -- Units, commits and the serial order of a recording. In this order: the state of a pass, the commit of each frame's unit, the order by
 -- commits over any element type, closed recordings and open blocks, what a serial order is asked to be.
 -- Quotes are from docs/FORMAT.md.
-use Rattle.std.specs.Prelude.{ℕ, zero, suc, ◌+◌, ◌≤◌, ◌<◌, ◌≡◌, Bool, true, false, cond, ◌&&◌, List, [], ◌∷◌, ◌++◌, eqb, length, get_or, take}
+use Rattle.std.specs.Prelude.{ℕ, zero, suc, ◌+◌, ◌≤◌, ◌<◌, ◌≡◌, Bool, true, false, cond, ◌&&◌, List, [], ◌∷◌, ◌++◌, eqb, length, get_or, take, Result, Ok, Err}
 use Rattle.frame.specs.Frame.{decode_word}
 use Rattle.frame.specs.declared.Thread.{Thread}
 use Rattle.frame.specs.declared.Frame.{Frame}
-use Rattle.frame.specs.declared.Decoded.{Decoded}
-use Rattle.frame.specs.declared.Decoded.TheVariants as decoded
 use Rattle.soundness.specs.Soundness.{State, nest, step_frame, check_from, start}
 use Rattle.instrumented.specs.Rules.{Phase, outside, before, after, Judging, phase_at}
 use Rattle.turn.specs.Turn.{judge_frame}
 use Rattle.pass.specs.Pass.{start_judging, full_sets}
+use Rattle.frame.specs.declared.Refusal.{Refusal}
 
 -- The state of a judging pass: locks and depths, and where the threads stand.
 pub record Point : Type 0 where
@@ -35,10 +34,10 @@ settled (after b c) = true
 
 -- The commit of the unit that thread t, outside or before commit, is in or comes to next: "the frame that took it after commit, or its end if
 -- none did; a single frame is its own commit", so its first frame from place i on that leaves it outside or after commit.
-abbrev pub on_frame : Decoded → Thread → ℕ → List ℕ → Point → (Point → ℕ) → ℕ
-on_frame (decoded.Frame f) t i guards p rest =
+abbrev pub on_frame : Result Frame Refusal → Thread → ℕ → List ℕ → Point → (Point → ℕ) → ℕ
+on_frame (Ok f) t i guards p rest =
     cond (eqb f.thread.0 t.0 && settled (phase_of_thread t (next guards i f p))) i (rest (next guards i f p))
-on_frame (decoded.Bad r) t i guards p rest = i
+on_frame (Err r) t i guards p rest = i
 
 unfoldable pub commit_from : List ℕ → Thread → ℕ → Point → List ℕ → ℕ
 commit_from guards t i p [] = i
@@ -51,10 +50,10 @@ commit_in (before b) c = c
 commit_in (after b k) c = k
 
 -- The commit of each frame's unit, by place.
-abbrev pub on_word : Decoded → ℕ → List ℕ → Point → List ℕ → (Point → List ℕ) → List ℕ
-on_word (decoded.Frame f) i guards p ws rest =
+abbrev pub on_word : Result Frame Refusal → ℕ → List ℕ → Point → List ℕ → (Point → List ℕ) → List ℕ
+on_word (Ok f) i guards p ws rest =
     commit_in (phase_of_thread f.thread p) (commit_from guards f.thread i p ws) ∷ rest (next guards i f p)
-on_word (decoded.Bad r) i guards p ws rest = []
+on_word (Err r) i guards p ws rest = []
 
 unfoldable pub commits_from : List ℕ → ℕ → Point → List ℕ → List ℕ
 commits_from guards i p [] = []
@@ -105,10 +104,10 @@ pub record FirstOpen (ws : List ℕ) (b : ℕ) : Type 0 where
 
 -- "no other thread's frame inside a block" (the paper's figure 6): at each frame every other thread is outside its blocks. `depth` has the
 -- depth of each thread before the first frame. A word that is no frame is in no such order.
-abbrev pub contiguous_at : Decoded → (ℕ → ℕ) → ((ℕ → ℕ) → Type 0) → Type 0
-contiguous_at (decoded.Frame f) depth rest =
+abbrev pub contiguous_at : Result Frame Refusal → (ℕ → ℕ) → ((ℕ → ℕ) → Type 0) → Type 0
+contiguous_at (Ok f) depth rest =
     ((u : ℕ) → (u ≡ f.thread.0 → ⊥) → depth u ≡ 0) × rest (λ u. cond (eqb u f.thread.0) (nest (depth u) f.action) (depth u))
-contiguous_at (decoded.Bad r) depth rest = ⊥
+contiguous_at (Err r) depth rest = ⊥
 
 unfoldable pub Contiguous : (ℕ → ℕ) → List ℕ → Type 0
 Contiguous depth [] = Unit {0}

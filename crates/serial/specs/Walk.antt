@@ -1,16 +1,13 @@
 -- The serial order as the code writes it: a walk of the recording that lists each unit where it commits. It does not judge. That this is the
 -- serial order of a reducible, closed recording, over any element type, is a law.
 -- Quotes are from docs/FORMAT.md.
-use Rattle.std.specs.Prelude.{ℕ, ◌+◌, ◌-◌, cond, List, [], ◌∷◌, ◌++◌, eqb, drop}
+use Rattle.std.specs.Prelude.{ℕ, ◌+◌, ◌-◌, cond, List, [], ◌∷◌, ◌++◌, eqb, drop, Result, Ok, Err, Option, Some, None}
 use Rattle.frame.specs.Frame.{decode_word}
 use Rattle.frame.specs.declared.Thread.{Thread}
 use Rattle.frame.specs.declared.Frame.{Frame}
-use Rattle.frame.specs.declared.Decoded.{Decoded}
-use Rattle.frame.specs.declared.Decoded.TheVariants as decoded
 use Rattle.soundness.specs.Soundness.{nest}
-use Rattle.reply.specs.declared.Mark.{Mark}
-use Rattle.reply.specs.declared.Mark.TheVariants.{At, Absent}
 use Rattle.commit.specs.Commit.{Tables, start_tables, visited, unit_start}
+use Rattle.frame.specs.declared.Refusal.{Refusal}
 
 -- A frame seen by a thread: its own, with the depth after it, or another's.
 pub data Own : Type 0 where
@@ -18,9 +15,9 @@ pub data Own : Type 0 where
   other : Own
 
 -- A frame seen by thread t, inside d open blocks.
-abbrev pub own_frame : Decoded → Thread → ℕ → Own
-own_frame (decoded.Bad r) t d = other
-own_frame (decoded.Frame f) t d = cond (eqb f.thread.0 t.0) (mine (nest d f.action)) other
+abbrev pub own_frame : Result Frame Refusal → Thread → ℕ → Own
+own_frame (Err r) t d = other
+own_frame (Ok f) t d = cond (eqb f.thread.0 t.0) (mine (nest d f.action)) other
 
 -- A thread's depth after its frame, by the frame's operation: 5 is a begin, 6 an end.
 abbrev pub depth_by : ℕ → ℕ → ℕ
@@ -41,13 +38,13 @@ unit_from t d (w ∷ ws) (x ∷ xs) = on_own (own_frame (decode_word w) t d) x d
 unfoldable pub unit_of : {A : Type 0} → List ℕ → List A → ℕ → Thread → List A
 unit_of ws xs b t = unit_from t 0 (drop b ws) (drop b xs)
 
-abbrev pub unit_in : {A : Type 0} → Mark → List ℕ → List A → Thread → List A
-unit_in (At b) all xs t = unit_of all xs b t
-unit_in Absent all xs t = []
+abbrev pub unit_in : {A : Type 0} → Option ℕ → List ℕ → List A → Thread → List A
+unit_in (Some b) all xs t = unit_of all xs b t
+unit_in None all xs t = []
 
-abbrev pub on_frame : {A : Type 0} → Decoded → (Frame → List A) → List A
-on_frame (decoded.Frame f) rest = rest f
-on_frame (decoded.Bad r) rest = []
+abbrev pub on_frame : {A : Type 0} → Result Frame Refusal → (Frame → List A) → List A
+on_frame (Ok f) rest = rest f
+on_frame (Err r) rest = []
 
 -- The units that commit from place i on, with the tables as they are there.
 unfoldable pub walk_from : {A : Type 0} → List ℕ → List ℕ → List A → ℕ → Tables → List ℕ → List A

@@ -7,14 +7,8 @@ ghost use Rattle.frame.specs.Frame.{InRange};
 ghost use Rattle.soundness.specs.Soundness.{step_frame, stepped, state_of, outcome_refusal, checked, check_from, check_reply};
 
 use frame::{
-    Action, DEEPEST, Decoded, Frame, LOCKS, MOST, MOST_HELD, MOST_PLACE, Refusal, Refused, THREADS,
+    Action, DEEPEST, Frame, LOCKS, MOST, MOST_HELD, MOST_PLACE, Refusal, Refused, THREADS,
 };
-
-#[derive(Clone, Copy)]
-pub enum CheckReply {
-    Sound,
-    Refused(Refused),
-}
 
 // Whether a frame is an inner acquire or release (the field's term is re-entrant), of a lock that its thread holds before and after.
 #[derive(Clone, Copy)]
@@ -23,20 +17,13 @@ pub enum Level {
     Inner,
 }
 
-// What a frame does to the locks and blocks.
-#[derive(Clone, Copy)]
-pub enum Outcome {
-    Next(Level),
-    Bad(Refusal),
-}
-
 // One frame: the owner of each lock (0 for none, else a thread's number plus 1), how often it is held, and the depth of each thread.
 pub fn step(
     owners: &mut [u8; LOCKS],
     counts: &mut [u8; LOCKS],
     depths: &mut [u8; THREADS],
     f: Frame,
-) -> Outcome
+) -> Result<Level, Refusal>
     requires { InRange f }
     ensures { step_frame f (state_of owners.old counts.old depths.old) ≡ stepped result (state_of owners.new counts.new depths.new) }
 {
@@ -49,62 +36,62 @@ pub fn step(
             if o == 0 {
                 owners[k] = t + 1;
                 counts[k] = 1;
-                return Outcome::Next(Level::Outer);
+                return Ok(Level::Outer);
             }
             if o != t + 1 {
-                return Outcome::Bad(Refusal::LockTaken);
+                return Err(Refusal::LockTaken);
             }
             let n = counts[k];
             if MOST_HELD <= n {
-                return Outcome::Bad(Refusal::TooOften);
+                return Err(Refusal::TooOften);
             }
             counts[k] = n + 1;
-            Outcome::Next(Level::Inner)
+            Ok(Level::Inner)
         }
         Action::Release(l) => {
             let k = l.0 as usize;
             if owners[k] != t + 1 {
-                return Outcome::Bad(Refusal::LockNotHeld);
+                return Err(Refusal::LockNotHeld);
             }
             let n = counts[k];
             if n <= 1 {
                 owners[k] = 0;
                 counts[k] = 0;
-                return Outcome::Next(Level::Outer);
+                return Ok(Level::Outer);
             }
             counts[k] = n - 1;
-            Outcome::Next(Level::Inner)
+            Ok(Level::Inner)
         }
         Action::Begin => {
             let k = t as usize;
             let d = depths[k];
             if DEEPEST <= d {
-                return Outcome::Bad(Refusal::TooDeep);
+                return Err(Refusal::TooDeep);
             }
             depths[k] = d + 1;
-            Outcome::Next(Level::Outer)
+            Ok(Level::Outer)
         }
         Action::End => {
             let k = t as usize;
             let d = depths[k];
             if d == 0 {
-                return Outcome::Bad(Refusal::NoOpenBlock);
+                return Err(Refusal::NoOpenBlock);
             }
             depths[k] = d - 1;
-            Outcome::Next(Level::Outer)
+            Ok(Level::Outer)
         }
-        Action::Read(_) => Outcome::Next(Level::Outer),
-        Action::Write(_) => Outcome::Next(Level::Outer),
+        Action::Read(_) => Ok(Level::Outer),
+        Action::Write(_) => Ok(Level::Outer),
     }
 }
 
 // The refusal of a frame that does not pass.
-pub fn outcome_refusal(o: Outcome) -> Refusal
+pub fn outcome_refusal(o: Result<Level, Refusal>) -> Refusal
     ensures { result ≡ outcome_refusal o }
 {
     match o {
-        Outcome::Bad(r) => r,
-        Outcome::Next(_) => Refusal::LockTaken,
+        Err(r) => r,
+        Ok(_) => Refusal::LockTaken,
     }
 }
 
@@ -115,7 +102,7 @@ pub fn check_from(
     counts: &mut [u8; LOCKS],
     depths: &mut [u8; THREADS],
     from: usize,
-) -> CheckReply
+) -> Result<(), Refused>
     requires fact_1 { from ≤ length words.now }
     requires fact_2 { length words.now ≤ 4294967296 }
     ensures { checked result (state_of owners.new counts.new depths.new) ≡ check_from from (state_of owners.old counts.old depths.old) (drop from words.now) }
@@ -123,30 +110,30 @@ pub fn check_from(
     let mut i = from;
     while i < words.len() {
         let d = frame::decode(words[i]);
-        let Decoded::Frame(f) = d else {
-            return CheckReply::Refused(Refused {
+        let Ok(f) = d else {
+            return Err(Refused {
                 reason: frame::refusal_of(d),
                 place: i as u32,
             });
         };
         let o = step(owners, counts, depths, f);
-        let Outcome::Next(_) = o else {
-            return CheckReply::Refused(Refused {
+        let Ok(_) = o else {
+            return Err(Refused {
                 reason: outcome_refusal(o),
                 place: i as u32,
             });
         };
         i += 1;
     }
-    CheckReply::Sound
+    Ok(())
 }
 
 // A whole recording.
-pub fn check(words: &[u32]) -> CheckReply
+pub fn check(words: &[u32]) -> Result<(), Refused>
     ensures { result ≡ check_reply words.now }
 {
     if MOST < words.len() {
-        return CheckReply::Refused(Refused {
+        return Err(Refused {
             reason: Refusal::TooLong,
             place: MOST_PLACE,
         });

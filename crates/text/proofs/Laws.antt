@@ -1,5 +1,6 @@
 -- Laws of the definitions of specs/Text: scanning a text line by line, the words written, what an accepted text is like, and
 -- where another is refused.
+use Rattle.std.specs.Prelude.{Result, Ok, Err, Option, Some, None}
 use Prim.Native.Nat.{ℕ, zero, suc, ◌+◌, ◌*◌, ◌≤◌, ◌<◌}
 use mathlib.Core.Path.{◌≡◌, refl, sym, ap, ◌∙◌}
 use mathlib.Core.Bool.{Bool, true, false, cond}
@@ -17,25 +18,22 @@ use Rattle.frame.specs.Refusal.{refused_at}
 use Rattle.frame.specs.declared.Refusal.TheVariants as refusal
 use Rattle.text.specs.Text.{word_at, if_line, scan_from, scanned, reached, words_to, room_reply, read_reply, read_words, linefeeds, LinesAreLinefeeds}
 use Rattle.digits.specs.Digits.{Digits, value, none, digit_of, digits_value, line_of}
-use Rattle.text.specs.declared.ReadReply.{ReadReply}
-use Rattle.text.specs.declared.ReadReply.TheVariants as reply
-use Rattle.digits.specs.declared.Line.{Line}
-use Rattle.digits.specs.declared.Line.TheVariants as line
 use Rattle.digits.proofs.Laws.{Shown, shown}
+use Rattle.frame.specs.declared.Refused.{Refused}
 
 -- the lines from line i on
 module _ (s : List ℕ) (i : ℕ) where
-  pub scan_done : (k : ℕ) → length s ≤ 9 * i → scan_from k s i ≡ reply.Lines i
+  pub scan_done : (k : ℕ) → length s ≤ 9 * i → scan_from k s i ≡ Ok i
   unfolding scan_from
   scan_done zero h = rw (le-leb (length s) (9 * i) h)
   scan_done (suc k) h = rw (le-leb (length s) (9 * i) h)
 
-  pub scan_over : 9 * i < length s → scan_from 0 s i ≡ reply.Refused (refused_at refusal.TooLong most_frames)
+  pub scan_over : 9 * i < length s → scan_from 0 s i ≡ Err (refused_at refusal.TooLong most_frames)
   unfolding scan_from
   scan_over h = rw (lt-leb (length s) (9 * i) h)
 
   pub scan_step : (k m : ℕ) → k ≡ suc m → 9 * i < length s
-      → scan_from k s i ≡ if_line (line_of s (9 * i)) (scan_from m s (i + 1)) (reply.Refused (refused_at refusal.Line i))
+      → scan_from k s i ≡ if_line (line_of s (9 * i)) (scan_from m s (i + 1)) (Err (refused_at refusal.Line i))
   unfolding scan_from
   scan_step k m e h = rw (e, lt-leb (length s) (9 * i) h)
 
@@ -44,7 +42,7 @@ pub full_reached : (s : List ℕ) → reached (scan_from 0 s most_frames) ≡ mo
 unfolding scan_from
 full_reached s = go (leb (length s) (9 * most_frames))
   where
-    go : (b : Bool) → reached (cond b (reply.Lines most_frames) (reply.Refused (refused_at refusal.TooLong most_frames))) ≡ most_frames
+    go : (b : Bool) → reached (cond b (Ok most_frames) (Err (refused_at refusal.TooLong most_frames))) ≡ most_frames
     go true = refl
     go false = refl
 
@@ -103,24 +101,24 @@ linefeeds_line s at w h =
 -- A text accepted from line i on, where k lines may come: it ends before line n, and each line before it is one.
 pub data Accepted (s : List ℕ) : ℕ → ℕ → ℕ → Type 0 where
   ends : {k i : ℕ} → length s ≤ 9 * i → Accepted s k i i
-  goes : {k i n : ℕ} (w : ℕ) → line_of s (9 * i) ≡ line.Word w → Accepted s k (i + 1) n → Accepted s (suc k) i n
+  goes : {k i n : ℕ} (w : ℕ) → line_of s (9 * i) ≡ Some w → Accepted s k (i + 1) n → Accepted s (suc k) i n
 
-ended : (s : List ℕ) (k i n : ℕ) → length s ≤ 9 * i → reply.Lines i ≡ reply.Lines n → Accepted s k i n
+ended : (s : List ℕ) (k i n : ℕ) → length s ≤ 9 * i → ◌≡◌ {A = Result ℕ Refused} (Ok i) (Ok n) → Accepted s k i n
 ended s k i n h e = let q : i ≡ n = cc in rw (← q) (ends h)
 
-pub accepted : (k : ℕ) (s : List ℕ) (i n : ℕ) → scan_from k s i ≡ reply.Lines n → Accepted s k i n
+pub accepted : (k : ℕ) (s : List ℕ) (i n : ℕ) → scan_from k s i ≡ Ok n → Accepted s k i n
 unfolding scan_from
 accepted zero s i n e = go (leb (length s) (9 * i)) refl
   where
     go : (t : Bool) → leb (length s) (9 * i) ≡ t → Accepted s zero i n
     go true q = ended s zero i n (leb-true (length s) (9 * i) q) (rw q at e)
-    go false q = let f : reply.Refused (refused_at refusal.TooLong most_frames) ≡ reply.Lines n = rw q at e in never (cc)
+    go false q = let f : ◌≡◌ {A = Result ℕ Refused} (Err (refused_at refusal.TooLong most_frames)) (Ok n) = rw q at e in never (cc)
 accepted (suc k) s i n e = go (accepted k s (i + 1) n) (leb (length s) (9 * i)) refl (line_of s (9 * i)) refl
   where
-    go : (scan_from k s (i + 1) ≡ reply.Lines n → Accepted s k (i + 1) n) → (t : Bool) → leb (length s) (9 * i) ≡ t → (l : Line) → line_of s (9 * i) ≡ l → Accepted s (suc k) i n
+    go : (scan_from k s (i + 1) ≡ Ok n → Accepted s k (i + 1) n) → (t : Bool) → leb (length s) (9 * i) ≡ t → (l : Option ℕ) → line_of s (9 * i) ≡ l → Accepted s (suc k) i n
     go ih true q l p = ended s (suc k) i n (leb-true (length s) (9 * i) q) (rw q at e)
-    go ih false q (line.Word w) p = goes w p (ih (rw (q, p) at e))
-    go ih false q line.Malformed p = let f : reply.Refused (refused_at refusal.Line i) ≡ reply.Lines n = rw (q, p) at e in never (cc)
+    go ih false q (Some w) p = goes w p (ih (rw (q, p) at e))
+    go ih false q None p = let f : ◌≡◌ {A = Result ℕ Refused} (Err (refused_at refusal.Line i)) (Ok n) = rw (q, p) at e in never (cc)
 
 -- an accepted text is as long as its lines
 pub accepted_length : {s : List ℕ} {k i n : ℕ} → 9 * i ≤ length s → Accepted s k i n → 9 * n ≡ length s
@@ -140,13 +138,13 @@ accepted_linefeeds {s} {i = i} (goes w e r) =
     omega (arith, linefeeds_line s (9 * i) w (shown s (9 * i) w e))
 
 -- each of its lines has a word
-pub accepted_line : {s : List ℕ} {k i n : ℕ} → Accepted s k i n → (j : ℕ) → i ≤ j → j < n → line_of s (9 * j) ≡ line.Word (word_at s j)
+pub accepted_line : {s : List ℕ} {k i n : ℕ} → Accepted s k i n → (j : ℕ) → i ≤ j → j < n → line_of s (9 * j) ≡ Some (word_at s j)
 unfolding word_at
 accepted_line {i = i} (ends l) j a b = absurd (omega arith)
-accepted_line {s} {i = i} {n} (goes w e r) j a b = from_here (λ j. line_of s (9 * j) ≡ line.Word (word_at s j)) i n (rw e) (accepted_line r) j a b
+accepted_line {s} {i = i} {n} (goes w e r) j a b = from_here (λ j. line_of s (9 * j) ≡ Some (word_at s j)) i n (rw e) (accepted_line r) j a b
 
 -- What a text of n lines is like.
-module _ (s : List ℕ) (n : ℕ) (e : scanned s ≡ reply.Lines n) where
+module _ (s : List ℕ) (n : ℕ) (e : scanned s ≡ Ok n) where
   pub scan_length : 9 * n ≡ length s
   scan_length = accepted_length (omega arith) (accepted most_frames s 0 n e)
 
@@ -158,26 +156,26 @@ module _ (s : List ℕ) (n : ℕ) (e : scanned s ≡ reply.Lines n) where
   scan_linefeeds = omega (arith, accepted_linefeeds (accepted most_frames s 0 n e))
 
   -- each line before the n-th is one
-  pub scan_lines : (j : ℕ) → j < n → line_of s (9 * j) ≡ line.Word (word_at s j)
+  pub scan_lines : (j : ℕ) → j < n → line_of s (9 * j) ≡ Some (word_at s j)
   scan_lines j h = accepted_line (accepted most_frames s 0 n e) j (omega arith) h
 
 -- What reading answers: n lines where the text has n lines and the buffer room for them.
-room : (m n : ℕ) (q : ReadReply) → room_reply m q ≡ reply.Lines n → (n ≤ m) × (q ≡ reply.Lines n)
-room m n (reply.Lines k) e = go (ltb m k) refl
+room : (m n : ℕ) (q : Result ℕ Refused) → room_reply m q ≡ Ok n → (n ≤ m) × (q ≡ Ok n)
+room m n (Ok k) e = go (ltb m k) refl
   where
-    go : (t : Bool) → ltb m k ≡ t → (n ≤ m) × (reply.Lines k ≡ reply.Lines n)
-    go true q = let f : reply.Refused (refused_at refusal.WordBuffer k) ≡ reply.Lines n = rw q at e in never (cc)
+    go : (t : Bool) → ltb m k ≡ t → (n ≤ m) × (◌≡◌ {A = Result ℕ Refused} (Ok k) (Ok n))
+    go true q = let f : ◌≡◌ {A = Result ℕ Refused} (Err (refused_at refusal.WordBuffer k)) (Ok n) = rw q at e in never (cc)
     go false q =
-        let f : reply.Lines k ≡ reply.Lines n = rw q at e in
+        let f : ◌≡◌ {A = Result ℕ Refused} (Ok k) (Ok n) = rw q at e in
         let g : k ≡ n = cc in
         (omega (arith, ltb-false m k q), f)
-room m n (reply.Refused r) e = never (cc)
+room m n (Err r) e = never (cc)
 
-module _ (s : List ℕ) (m n : ℕ) (e : read_reply s m ≡ reply.Lines n) where
+module _ (s : List ℕ) (m n : ℕ) (e : read_reply s m ≡ Ok n) where
   pub read_room : n ≤ m
   read_room = (room m n (scanned s) e).0
 
-  pub read_scanned : scanned s ≡ reply.Lines n
+  pub read_scanned : scanned s ≡ Ok n
   read_scanned = (room m n (scanned s) e).1
 
   pub read_limit : n ≤ most_frames
@@ -189,13 +187,13 @@ module _ (s : List ℕ) (m n : ℕ) (e : read_reply s m ≡ reply.Lines n) where
   pub read_linefeeds : linefeeds s ≡ n
   read_linefeeds = scan_linefeeds s n read_scanned
 
-  pub read_lines : (j : ℕ) → j < n → line_of s (9 * j) ≡ line.Word (word_at s j)
+  pub read_lines : (j : ℕ) → j < n → line_of s (9 * j) ≡ Some (word_at s j)
   read_lines = scan_lines s n read_scanned
 
 -- the line reader's claim
 pub lines_are_linefeeds : LinesAreLinefeeds
 lines_are_linefeeds s ws n e =
-    (read_linefeeds s (length ws) n e, read_length s (length ws) n e, read_limit s (length ws) n e, read_room s (length ws) n e, λ i h. read_lines s (length ws) n e i h ∙ ap line.Word (sym (word i h)))
+    (read_linefeeds s (length ws) n e, read_length s (length ws) n e, read_limit s (length ws) n e, read_room s (length ws) n e, λ i h. read_lines s (length ws) n e i h ∙ ap Some (sym (word i h)))
   where
     word : (i : ℕ) → i < n → get_or (read_words s ws) i 0 ≡ word_at s i
     word i h = rw e (get_or-append (words_to s n) (drop n ws) 0 i (rw (length_words_to s n) h) ∙ get_or_words_to s n i 0 h)
@@ -212,8 +210,8 @@ in_front s ws n last g = record {
 }
 
 -- after `read_into` answered n lines
-pub after_into : (s ws : List ℕ) (n : ℕ) (last : List ℕ) (r : ReadReply)
-    → r ≡ reply.Lines n → last ≡ words_to s (reached r) ++ drop (reached r) ws → Read s n last
+pub after_into : (s ws : List ℕ) (n : ℕ) (last : List ℕ) (r : Result ℕ Refused)
+    → r ≡ Ok n → last ≡ words_to s (reached r) ++ drop (reached r) ws → Read s n last
 after_into s ws n last r e f = in_front s ws n last (rw e at f)
 
 -- a text is refused at a line, or at 4,096
@@ -223,9 +221,9 @@ scan_place zero s i h = either (λ r. reached r ≤ most_frames) (leb (length s)
 scan_place (suc k) s i h =
     either (λ r. reached r ≤ most_frames) (leb (length s) (9 * i)) (omega arith) (go (line_of s (9 * i)) (scan_place k s (i + 1) (omega arith)))
   where
-    go : (l : Line) → reached (scan_from k s (i + 1)) ≤ most_frames → reached (if_line l (scan_from k s (i + 1)) (reply.Refused (refused_at refusal.Line i))) ≤ most_frames
-    go (line.Word w) ih = ih
-    go line.Malformed ih = omega arith
+    go : (l : Option ℕ) → reached (scan_from k s (i + 1)) ≤ most_frames → reached (if_line l (scan_from k s (i + 1)) (Err (refused_at refusal.Line i))) ≤ most_frames
+    go (Some w) ih = ih
+    go None ih = omega arith
 
 pub reached_limit : (s : List ℕ) → reached (scanned s) ≤ most_frames
 reached_limit s = scan_place most_frames s 0 (omega arith)

@@ -7,34 +7,26 @@ ghost use Rattle.frame.specs.Limits.{most_frames};
 ghost use Rattle.text.specs.Text.{word_at, scan_from, scanned, reached, words_to, read_reply, read_words};
 ghost use Rattle.digits.specs.Digits.{Values};
 
-use digits::Line;
 use frame::{MOST, MOST_PLACE, Refusal, Refused};
 
 // The most bytes of a text: a line has nine.
 pub const MOST_BYTES: usize = 9 * MOST;
 
-// The number of lines of a text, or why it is refused.
-#[derive(Clone, Copy)]
-pub enum ReadReply {
-    Lines(u32),
-    Refused(Refused),
-}
-
 // What is answered behind the last line that a text may have: no byte may stand there.
-fn full(s: &[u8]) -> ReadReply
+fn full(s: &[u8]) -> Result<u32, Refused>
     ensures { result ≡ scan_from 0 s.now most_frames }
 {
     if s.len() <= MOST_BYTES {
-        return ReadReply::Lines(MOST_PLACE);
+        return Ok(MOST_PLACE);
     }
-    ReadReply::Refused(Refused {
+    Err(Refused {
         reason: Refusal::TooLong,
         place: MOST_PLACE,
     })
 }
 
 // The lines of a text, each word written as it is read: where a line is refused, the words before it are written.
-pub fn read_into(s: &[u8], words: &mut [u32]) -> ReadReply
+pub fn read_into(s: &[u8], words: &mut [u32]) -> Result<u32, Refused>
     requires { most_frames ≤ length words.old }
     ensures reply { result ≡ scanned s.now }
     ensures contents { words.new ≡ words_to s.now (reached result) ++ drop (reached result) words.old }
@@ -43,11 +35,11 @@ pub fn read_into(s: &[u8], words: &mut [u32]) -> ReadReply
     let mut i: usize = 0;
     while i < MOST {
         if s.len() <= 9 * i {
-            return ReadReply::Lines(i as u32);
+            return Ok(i as u32);
         }
         let l = digits::read_line(&t, s, 9 * i);
-        let Line::Word(w) = l else {
-            return ReadReply::Refused(Refused {
+        let Some(w) = l else {
+            return Err(Refused {
                 reason: Refusal::Line,
                 place: i as u32,
             });
@@ -59,18 +51,18 @@ pub fn read_into(s: &[u8], words: &mut [u32]) -> ReadReply
 }
 
 // The number of lines, or the first refusal among them.
-fn scan(t: &[u64; 256], s: &[u8]) -> ReadReply
+fn scan(t: &[u64; 256], s: &[u8]) -> Result<u32, Refused>
     requires { Values t.now }
     ensures { result ≡ scanned s.now }
 {
     let mut i: usize = 0;
     while i < MOST {
         if s.len() <= 9 * i {
-            return ReadReply::Lines(i as u32);
+            return Ok(i as u32);
         }
         let l = digits::read_line(t, s, 9 * i);
-        let Line::Word(_) = l else {
-            return ReadReply::Refused(Refused {
+        let Some(_) = l else {
+            return Err(Refused {
                 reason: Refusal::Line,
                 place: i as u32,
             });
@@ -87,7 +79,7 @@ fn word_at(t: &[u64; 256], s: &[u8], i: usize) -> u32
     ensures { result ≡ word_at s.now i }
 {
     let l = digits::read_line(t, s, 9 * i);
-    let Line::Word(w) = l else {
+    let Some(w) = l else {
         return 0;
     };
     w
@@ -107,21 +99,21 @@ fn write_words(t: &[u64; 256], text: &[u8], words: &mut [u32], n: usize)
 }
 
 // The lines of a text, all of them checked before a word is written: where the text is refused, no word changes.
-pub fn read_recording(text: &[u8], words: &mut [u32]) -> ReadReply
+pub fn read_recording(text: &[u8], words: &mut [u32]) -> Result<u32, Refused>
     ensures reply { result ≡ read_reply text.now (length words.old) }
     ensures contents { words.new ≡ read_words text.now words.old }
 {
     let t = digits::digit_values();
     let q = scan(&t, text);
-    let ReadReply::Lines(n) = q else {
+    let Ok(n) = q else {
         return q;
     };
     if words.len() < n as usize {
-        return ReadReply::Refused(Refused {
+        return Err(Refused {
             reason: Refusal::WordBuffer,
             place: n,
         });
     }
     write_words(&t, text, words, n as usize);
-    ReadReply::Lines(n)
+    Ok(n)
 }

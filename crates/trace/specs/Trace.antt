@@ -1,25 +1,21 @@
 -- What the functions for C programs answer and write, from the definitions of the crates below.
 -- Quotes are from docs/FORMAT.md.
-use Rattle.std.specs.Prelude.{ℕ, ◌+◌, cond, List, ◌++◌, ltb, length, drop}
+use Rattle.std.specs.Prelude.{ℕ, ◌+◌, cond, List, ◌++◌, ltb, length, drop, Result, Ok, Err}
 use Rattle.frame.specs.Refusal.{refusal_number}
 use Rattle.frame.specs.declared.Refusal.TheVariants as refusal
-use Rattle.text.specs.declared.ReadReply.{ReadReply}
-use Rattle.text.specs.declared.ReadReply.TheVariants as read
-use Rattle.guards.specs.declared.GuardsReply.{GuardsReply}
-use Rattle.guards.specs.declared.GuardsReply.TheVariants as guards
-use Rattle.reply.specs.declared.Reply.{Reply}
+use Rattle.reply.specs.Reply.{Reply, packed}
 use Rattle.line.specs.Line.{line_length, verdict_line}
 use Rattle.verdict.specs.Verdict.{inferred_sets}
-use Rattle.reply.specs.Reply.{packed}
 use Rattle.answer.specs.Answer.{reply_kind}
+use Rattle.frame.specs.declared.Refused.{Refused}
 
-abbrev pub read_answer : ReadReply → ℕ
-read_answer (read.Lines n) = n
-read_answer (read.Refused r) = packed r
+abbrev pub read_answer : Result ℕ Refused → ℕ
+read_answer (Ok n) = n
+read_answer (Err r) = packed r
 
-abbrev pub guards_answer : GuardsReply → ℕ
-guards_answer (guards.Lines n) = n
-guards_answer (guards.Refused r) = packed r
+abbrev pub guards_answer : Result ℕ Refused → ℕ
+guards_answer (Ok n) = n
+guards_answer (Err r) = packed r
 
 -- "The C entry returns the kind as a number"; "refused by 17 it returns 91 hexadecimal": 17 where the buffer, n bytes long, is "shorter
 -- than 33 bytes", "first of all".

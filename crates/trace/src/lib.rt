@@ -11,8 +11,7 @@ ghost use Rattle.verdict.specs.Verdict.{verdict_under, inferred_reply};
 ghost use Rattle.trace.specs.Trace.{read_answer, guards_answer, kind_answer, line_after, sets_after};
 ghost use Rattle.answer.specs.Answer.{text_judged};
 
-use guards::{GuardsReply, Judgement};
-use text::ReadReply;
+use guards::Judgement;
 
 // The bytes of a verdict line, and the kind where a line buffer has fewer: 80 hexadecimal plus 17.
 const LINE: usize = line::LINE;
@@ -39,8 +38,8 @@ pub fn trace_read(text: &[u8], words: &mut [u32]) -> u64
 {
     let q = text::read_recording(text, words);
     match q {
-        ReadReply::Lines(n) => n as u64,
-        ReadReply::Refused(x) => reply::pack(x),
+        Ok(n) => n as u64,
+        Err(x) => reply::pack(x),
     }
 }
 
@@ -51,8 +50,8 @@ pub fn trace_guards(list: &[u8]) -> u64
     let g = guards::read_guards(list);
     let q = g.reply;
     match q {
-        GuardsReply::Lines(n) => n as u64,
-        GuardsReply::Refused(x) => reply::pack(x),
+        Ok(n) => n as u64,
+        Err(x) => reply::pack(x),
     }
 }
 

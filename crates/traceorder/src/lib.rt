@@ -10,10 +10,9 @@ ghost use Rattle.moves.specs.Moves.{moves_under, moves_out_under};
 ghost use Rattle.unitcommits.specs.UnitCommits.{commits_under, commits_out_under};
 ghost use Rattle.traceorder.specs.Answers.{packed_side, equal_answer, order_answer};
 
-use equal::{EqualReply, Side};
+use equal::Side;
 use frame::Refused;
 use guards::Judgement;
-use order::OrderReply;
 
 // A refusal of one side of a comparison as one number.
 fn pack_side(side: Side, r: Refused) -> u64
@@ -31,18 +30,18 @@ pub fn trace_equal(left: &[u32], right: &[u32]) -> u64
 {
     let q = equal::equal(left, right);
     match q {
-        EqualReply::Equal => 1,
-        EqualReply::Different => 0,
-        EqualReply::Refused(side, x) => pack_side(side, x),
+        Ok(true) => 1,
+        Ok(false) => 0,
+        Err(x) => pack_side(x.side, x.refused),
     }
 }
 
-fn pack_order(q: OrderReply) -> u64
+fn pack_order(q: Result<u32, Refused>) -> u64
     ensures { result ≡ order_answer q }
 {
     match q {
-        OrderReply::Written(n) => n as u64,
-        OrderReply::Refused(x) => reply::pack(x),
+        Ok(n) => n as u64,
+        Err(x) => reply::pack(x),
     }
 }
 

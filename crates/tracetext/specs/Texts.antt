@@ -1,33 +1,28 @@
 -- What the functions for C programs answer and leave that write texts, and read and write verdict lines. A number that answers has the refusal's
 -- number in the high 32 bits and its place in the low 32 (`packed`), or what is answered.
 -- Quotes are from docs/FORMAT.md.
-use Rattle.std.specs.Prelude.{ℕ, cond, List, ◌++◌, ltb, length, drop}
+use Rattle.std.specs.Prelude.{ℕ, cond, List, ◌++◌, ltb, length, drop, Result, Ok, Err}
 use Rattle.frame.specs.Refusal.{refused_at}
 use Rattle.frame.specs.declared.Refusal.TheVariants as refusal
 use Rattle.line.specs.Line.{place_width, line_length, mark_field, field_mark}
 use Rattle.line.specs.declared.Fields.{Fields}
-use Rattle.writer.specs.declared.WriteReply.{WriteReply}
-use Rattle.writer.specs.declared.WriteReply.TheVariants as write
 use Rattle.fields.specs.Fields.{written_line}
-use Rattle.fields.specs.declared.FieldsReply.{FieldsReply}
-use Rattle.fields.specs.declared.FieldsReply.TheVariants as fields
-use Rattle.fields.specs.declared.LineReply.{LineReply}
-use Rattle.fields.specs.declared.LineReply.TheVariants as line
 use Rattle.reply.specs.Reply.{packed}
+use Rattle.frame.specs.declared.Refused.{Refused}
 
-abbrev pub write_answer : WriteReply → ℕ
-write_answer (write.Written n) = n
-write_answer (write.Refused r) = packed r
+abbrev pub write_answer : Result ℕ Refused → ℕ
+write_answer (Ok n) = n
+write_answer (Err r) = packed r
 
 -- 0 for a line that is read.
-abbrev pub fields_answer : FieldsReply → ℕ
-fields_answer (fields.Read f) = 0
-fields_answer (fields.Refused r) = packed r
+abbrev pub fields_answer : Result Fields Refused → ℕ
+fields_answer (Ok f) = 0
+fields_answer (Err r) = packed r
 
 -- What a number is left with that had the value old: what `of` takes from the fields of a line, or old where it is refused.
-abbrev pub left : (Fields → ℕ) → FieldsReply → ℕ → ℕ
-left of (fields.Read f) old = of f
-left of (fields.Refused r) old = old
+abbrev pub left : (Fields → ℕ) → Result Fields Refused → ℕ → ℕ
+left of (Ok f) old = of f
+left of (Err r) old = old
 
 -- The number of a field, "absent is FFFF".
 abbrev pub kind_of : Fields → ℕ
@@ -53,18 +48,18 @@ abbrev pub given : ℕ → ℕ → ℕ → ℕ → ℕ → ℕ → Fields
 given k f t b c l = record { kind = k; frame = f; thread = t; begin = field_mark place_width b; commit = field_mark place_width c; locks = l }
 
 -- The bytes written, or the refusal.
-abbrev pub line_answer : LineReply → ℕ
-line_answer line.Written = line_length
-line_answer (line.Refused r) = packed r
+abbrev pub line_answer : Result (List ℕ) Refused → ℕ
+line_answer (Ok l) = line_length
+line_answer (Err r) = packed r
 
 -- "17: shorter than 33 bytes; 33; line buffer, first of all": writing fields into a buffer of n bytes.
 abbrev pub write_line_answer : Fields → ℕ → ℕ
-write_line_answer f n = cond (ltb n line_length) (packed (refused_at refusal.LineBuffer line_length)) (line_answer (written_line f).reply)
+write_line_answer f n = cond (ltb n line_length) (packed (refused_at refusal.LineBuffer line_length)) (line_answer (written_line f))
 
-abbrev pub line_over : LineReply → List ℕ → List ℕ → List ℕ
-line_over line.Written l buffer = l ++ drop line_length buffer
-line_over (line.Refused r) l buffer = buffer
+abbrev pub line_over : Result (List ℕ) Refused → List ℕ → List ℕ
+line_over (Ok l) buffer = l ++ drop line_length buffer
+line_over (Err r) buffer = buffer
 
 -- The first bytes of the buffer are the line; a refusal writes nothing.
 abbrev pub write_line_after : Fields → List ℕ → List ℕ
-write_line_after f buffer = cond (ltb (length buffer) line_length) buffer (line_over (written_line f).reply (written_line f).line buffer)
+write_line_after f buffer = cond (ltb (length buffer) line_length) buffer (line_over (written_line f) buffer)

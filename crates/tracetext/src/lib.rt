@@ -8,10 +8,9 @@ ghost use Rattle.writer.specs.Writer.{write_reply, text_after};
 ghost use Rattle.fields.specs.Fields.{line_fields};
 ghost use Rattle.tracetext.specs.Texts.{write_answer, fields_answer, left, kind_of, frame_of, thread_of, begin_of, commit_of, locks_of, given, write_line_answer, write_line_after};
 
-use fields::{FieldsReply, LineReply, field_mark};
+use fields::field_mark;
 use frame::{Refusal, Refused};
 use line::{Fields, LINE, mark_field};
-use writer::WriteReply;
 
 // The bytes of a line as a place.
 const LINE_PLACE: u32 = LINE as u32;
@@ -23,8 +22,8 @@ pub fn trace_write(words: &[u32], text: &mut [u8], place: usize) -> u64
 {
     let q = writer::write_recording(words, text, place);
     match q {
-        WriteReply::Written(n) => n as u64,
-        WriteReply::Refused(x) => reply::pack(x),
+        Ok(n) => n as u64,
+        Err(x) => reply::pack(x),
     }
 }
 
@@ -48,7 +47,7 @@ pub fn trace_line_read(
 {
     let q = fields::read_fields(line);
     match q {
-        FieldsReply::Read(f) => {
+        Ok(f) => {
             let b = f.begin;
             let c = f.commit;
             *kind = f.kind;
@@ -59,7 +58,7 @@ pub fn trace_line_read(
             *locks = f.locks;
             0
         }
-        FieldsReply::Refused(x) => reply::pack(x),
+        Err(x) => reply::pack(x),
     }
 }
 
@@ -90,13 +89,11 @@ pub fn trace_line_write(
         commit: field_mark(commit),
         locks: locks,
     });
-    let q = w.reply;
-    match q {
-        LineReply::Written => {
-            let l = w.line;
+    match w {
+        Ok(l) => {
             line::put_line(line, l);
             LINE as u64
         }
-        LineReply::Refused(x) => reply::pack(x),
+        Err(x) => reply::pack(x),
     }
 }

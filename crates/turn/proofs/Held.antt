@@ -1,4 +1,5 @@
 -- The table of held sets follows the owners, frame by frame.
+use Rattle.std.specs.Prelude.{Ok, Err}
 use Prim.Native.Nat.{ℕ, ◌+◌, ◌-◌, ◌^◌, ◌<◌}
 use mathlib.Core.Path.{◌≡◌, ◌∙◌, sym, ap, refl, subst}
 use mathlib.Core.List.{List}
@@ -18,15 +19,14 @@ use Rattle.frame.specs.declared.Refusal.TheVariants as refusal
 use Rattle.soundness.specs.Soundness.{State, state_of, nested, Stepped, stepped, step_action, step_frame}
 use Rattle.soundness.proofs.Laws.{spared, Acquired, took, took_again, acquired, Released, freed, let_go, released}
 use Rattle.soundness.specs.declared.Level.{Level}
-use Rattle.soundness.specs.declared.Outcome.TheVariants as outcome
-use Rattle.reply.specs.declared.Verdict.{Verdict}
+use Rattle.reply.specs.Reply.{Verdict}
 use Rattle.operation.specs.declared.Operation.{Operation}
 use Rattle.operation.specs.Operation.{operation_of}
 use Rattle.instrumented.specs.Rules.{Judging, judged, judge_operation}
 use Rattle.instrumented.specs.Held.{held_set, Holdable, held, Follows}
 use Rattle.judge.proofs.Held.{mine, mine_other, held_lt, held_none, held_same, held_take, held_free}
 use Rattle.judge.proofs.Laws.{access_fits, access_holds}
-use Rattle.turn.specs.declared.Turn.TheVariants as turn
+use Rattle.turn.specs.declared.Stop.TheVariants as stop
 use Rattle.turn.specs.Turn.{turned, turned_to, by_verdict}
 
 -- a store to the held sets
@@ -73,7 +73,7 @@ module _ (guards hs : List ℕ) (t : ℕ) (s : State) (small : t < thread_count)
       }
   held_release l lock (let_go own more) = record { fits = lock; follows = fs }
 
-  pub held_step : {x : Level} {n : State} (a : Action) → ObjectInRange a → step_action t a s ≡ stepped (outcome.Next x) n → Held guards hs t x a n
+  pub held_step : {x : Level} {n : State} (a : Action) → ObjectInRange a → step_action t a s ≡ stepped (Ok x) n → Held guards hs t x a n
   unfolding step_action
   held_step (action.Acquire l) r e = held_acquire l r (acquired t l s e)
   held_step (action.Release l) r e = held_release l r (released t l s e)
@@ -106,7 +106,7 @@ module _ (guards counts depths : List ℕ) {owners hs : List ℕ} (fs : Follows 
   abbrev here : State
   here = state_of owners counts depths
 
-  module _ {x : Level} {n : State} (g : step_frame f here ≡ stepped (outcome.Next x) n) where
+  module _ {x : Level} {n : State} (g : step_frame f here ≡ stepped (Ok x) n) where
     pub frame_held : Held guards hs f.thread.0 x f.action n
     frame_held = held_step guards hs f.thread.0 here r.thread fs f.action r.object g
 
@@ -117,6 +117,6 @@ module _ (guards counts depths : List ℕ) {owners hs : List ℕ} (fs : Follows 
     turn_judged i j oe a = let q = rw (fs.are f.thread.0 r.thread, oe) at a in rw (g, q)
 
   -- one that does not is refused
-  pub turn_refused : (i : ℕ) (j : Judging) {n : State} {b : Refusal} → step_frame f here ≡ stepped (outcome.Bad b) n
-      → turned guards i f here j ≡ turned_to (turn.Refused b) n j
+  pub turn_refused : (i : ℕ) (j : Judging) {n : State} {b : Refusal} → step_frame f here ≡ stepped (Err b) n
+      → turned guards i f here j ≡ turned_to (Err (stop.Refused b)) n j
   turn_refused i j g = rw g

@@ -1,18 +1,17 @@
 -- One turn of a pass over a recording: what a frame does to the locks and depths, and by the rules to where the threads stand.
 -- `guards` has the code of each variable's guard (crate guards).
 -- Quotes are from docs/FORMAT.md.
-use Rattle.std.specs.Prelude.{ℕ, ◌≡◌, List, get_or}
+use Rattle.std.specs.Prelude.{ℕ, ◌≡◌, List, get_or, Result, Ok, Err}
 use Rattle.frame.specs.declared.Frame.{Frame}
-use Rattle.reply.specs.declared.Verdict.{Verdict}
-use Rattle.reply.specs.declared.Verdict.TheVariants as verdict
+use Rattle.reply.specs.Reply.{Verdict}
 use Rattle.soundness.specs.Soundness.{State, step_frame, level_of}
-use Rattle.soundness.specs.declared.Outcome.{Outcome}
-use Rattle.soundness.specs.declared.Outcome.TheVariants as outcome
 use Rattle.operation.specs.Operation.{operation_of}
 use Rattle.instrumented.specs.Rules.{Judging, Judged, judge_operation}
 use Rattle.instrumented.specs.Held.{held_set, Follows}
-use Rattle.turn.specs.declared.Turn.{Turn}
-use Rattle.turn.specs.declared.Turn.TheVariants as turn
+use Rattle.turn.specs.declared.Stop.{Stop}
+use Rattle.turn.specs.declared.Stop.TheVariants as stop
+use Rattle.frame.specs.declared.Refusal.{Refusal}
+use Rattle.soundness.specs.declared.Level.{Level}
 
 -- One sound frame at place i, with the locks and depths as they are before it.
 abbrev pub judge_frame : List ℕ → ℕ → Frame → State → Judging → Judged
@@ -22,20 +21,20 @@ judge_frame guards i f s j =
 
 -- What a frame does, and the state after it. A violation leaves where the threads stand as it was, a refusal all.
 pub record Turned : Type 0 where
-  pub turn : Turn
+  pub turn : Result Unit Stop
   pub state : State
   pub judging : Judging
 
-abbrev pub turned_to : Turn → State → Judging → Turned
+abbrev pub turned_to : Result Unit Stop → State → Judging → Turned
 turned_to t s j = record { turn = t; state = s; judging = j }
 
 abbrev pub by_verdict : Verdict → State → Judging → Turned
-by_verdict verdict.Reducible s j = turned_to turn.Next s j
-by_verdict (verdict.Violated v) s j = turned_to (turn.Wrong v) s j
+by_verdict (Ok tt) s j = turned_to (Ok tt) s j
+by_verdict (Err v) s j = turned_to (Err (stop.Wrong v)) s j
 
-abbrev pub by_outcome : Outcome → State → Judging → Turned → Turned
-by_outcome (outcome.Next x) s j rest = rest
-by_outcome (outcome.Bad r) s j rest = turned_to (turn.Refused r) s j
+abbrev pub by_outcome : Result Level Refusal → State → Judging → Turned → Turned
+by_outcome (Ok x) s j rest = rest
+by_outcome (Err r) s j rest = turned_to (Err (stop.Refused r)) s j
 
 -- A frame at place i: "frame in sequence" refuses it, or the rules judge it.
 abbrev pub turned : List ℕ → ℕ → Frame → State → Judging → Turned
@@ -44,7 +43,7 @@ turned guards i f s j =
     (by_verdict (judge_frame guards i f s j).verdict (step_frame f s).state (judge_frame guards i f s j).judging)
 
 -- The table of held sets after a frame: that of the owners again where the frame leads on, and else as it was before.
-abbrev pub FollowsAfter : Turn → List ℕ → List ℕ → List ℕ → Type 0
-FollowsAfter turn.Next before held owners = Follows held owners
-FollowsAfter (turn.Refused r) before held owners = held ≡ before
-FollowsAfter (turn.Wrong v) before held owners = held ≡ before
+abbrev pub FollowsAfter : Result Unit Stop → List ℕ → List ℕ → List ℕ → Type 0
+FollowsAfter (Ok tt) before held owners = Follows held owners
+FollowsAfter (Err (stop.Refused r)) before held owners = held ≡ before
+FollowsAfter (Err (stop.Wrong v)) before held owners = held ≡ before

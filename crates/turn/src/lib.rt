@@ -9,14 +9,12 @@ ghost use Rattle.instrumented.specs.Rules.{judging_of};
 ghost use Rattle.instrumented.specs.Held.{Follows};
 ghost use Rattle.turn.specs.Turn.{turned, turned_to, FollowsAfter};
 
-use frame::{Frame, LOCKS, Refusal, THREADS, VARIABLES};
-use reply::{Verdict, Violation};
-use soundness::Outcome;
+use frame::{Frame, LOCKS, Refusal, Refused, THREADS, VARIABLES};
+use reply::Violation;
 
-// What a frame does: it leads on, is refused, or goes wrong.
+// Why a pass stops at a frame: the frame is refused, or goes wrong.
 #[derive(Clone, Copy)]
-pub enum Turn {
-    Next,
+pub enum Stop {
     Refused(Refusal),
     Wrong(Violation),
 }
@@ -33,7 +31,7 @@ pub fn judge_frame(
     sets: &mut [u64; VARIABLES],
     i: u32,
     f: Frame,
-) -> Turn
+) -> Result<(), Stop>
     requires fact_1 { InRange f }
     requires fact_2 { i < 4294967295 }
     requires fact_3 { Follows held.old owners.old }
@@ -44,14 +42,14 @@ pub fn judge_frame(
     let t = thread.0 as usize;
     let depth = depths[t];
     let o = soundness::step(owners, counts, depths, f);
-    let Outcome::Next(level) = o else {
-        return Turn::Refused(soundness::outcome_refusal(o));
+    let Ok(level) = o else {
+        return Err(Stop::Refused(soundness::outcome_refusal(o)));
     };
     let a = f.action;
     let op = operation::operation_of(guards, level, a);
     let v = judge::judge(held, begins, commits, sets, depth, i, thread, op);
     match v {
-        Verdict::Reducible => Turn::Next,
-        Verdict::Violated(w) => Turn::Wrong(w),
+        Ok(()) => Ok(()),
+        Err(w) => Err(Stop::Wrong(w)),
     }
 }

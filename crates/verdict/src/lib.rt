@@ -7,19 +7,19 @@ ghost use Rattle.frame.specs.Limits.{variable_count};
 ghost use Rattle.verdict.specs.Verdict.{guards_refused, verdict_under, inferred_reply, inferred_sets};
 
 use frame::{ALL_LOCKS, Refusal, Refused, VARIABLES};
-use guards::{GuardsReply, INFERRED, Judgement};
-use reply::{Reply, Verdict};
+use guards::{INFERRED, Judgement};
+use reply::Reply;
 
 // The entries of a table of candidate sets, as a place.
 const VARIABLE_COUNT: u32 = VARIABLES as u32;
 
 // The refusal of a guard list.
-fn guards_refused(q: GuardsReply) -> Reply
+fn guards_refused(q: Result<u32, Refused>) -> Reply
     ensures { result ≡ guards_refused q }
 {
     match q {
-        GuardsReply::Refused(x) => Reply::Refused(x),
-        GuardsReply::Lines(_) => Reply::Judged(Verdict::Reducible),
+        Err(x) => Err(x),
+        Ok(_) => Ok(Ok(())),
     }
 }
 
@@ -29,7 +29,7 @@ pub fn judge(j: Judgement, list: &[u8], words: &[u32]) -> Reply
 {
     let g = guards::guards_under(j, list);
     let q = g.reply;
-    let GuardsReply::Lines(_) = q else {
+    let Ok(_) = q else {
         return guards_refused(q);
     };
     let table = g.table;
@@ -59,15 +59,15 @@ pub fn inferred(words: &[u32], sets: &mut [u64]) -> Reply
     let mut own = [ALL_LOCKS; VARIABLES];
     let p = pass::judge_recording(words, &guards, &mut own);
     let r = p.reply;
-    let Reply::Judged(v) = r else {
+    let Ok(v) = r else {
         return r;
     };
     if sets.len() < VARIABLES {
-        return Reply::Refused(Refused {
+        return Err(Refused {
             reason: Refusal::SetTable,
             place: VARIABLE_COUNT,
         });
     }
     copy_sets(&own, sets);
-    Reply::Judged(v)
+    Ok(v)
 }

@@ -1,4 +1,5 @@
 -- Guards that agree on the variables that a recording accesses: its frames step with both.
+use Rattle.std.specs.Prelude.{Ok}
 use Prim.Native.Nat.{ℕ, suc, ◌<◌}
 use mathlib.Core.Path.{◌≡◌}
 use mathlib.Core.List.{List, ◌∷◌}
@@ -9,7 +10,6 @@ use Rattle.frame.proofs.Laws.{decoded_in_range}
 use Rattle.frame.specs.declared.Variable.{Variable}
 use Rattle.frame.specs.declared.Action.{Action}
 use Rattle.frame.specs.declared.Frame.{Frame}
-use Rattle.frame.specs.declared.Decoded.TheVariants as decoded
 use Rattle.guards.specs.declared.Guard.{Guard}
 use Rattle.soundness.specs.Soundness.{State}
 use Rattle.rules.specs.Figures.{Accesses, reads, writes, Store, AllStep, end, step}
@@ -17,7 +17,7 @@ use Rattle.rules.proofs.Figures.{same_steps}
 use Rattle.verdictlaws.specs.VerdictLaws.{Accessed}
 
 -- the variables of the first frame, and those of the frames behind it
-accessed_first : {w : ℕ} {x : Variable} {ws : List ℕ} (f : Frame) → decode_word w ≡ decoded.Frame f → Accesses f.action x → Accessed (w ∷ ws) x.0
+accessed_first : {w : ℕ} {x : Variable} {ws : List ℕ} (f : Frame) → decode_word w ≡ Ok f → Accesses f.action x → Accessed (w ∷ ws) x.0
 accessed_first f d c = record { place = 0; within = omega arith; frame = f; is = d; accesses = c }
 
 accessed_later : {w x : ℕ} {ws : List ℕ} → Accessed ws x → Accessed (w ∷ ws) x

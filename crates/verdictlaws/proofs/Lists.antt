@@ -1,5 +1,6 @@
 -- Chosen locks as a guard list, and a guard list as chosen locks. In this order: a table of values; the lines that name a lock for each
 -- variable, which are accepted; the locks that a table of guards gives.
+use Rattle.std.specs.Prelude.{Ok, Some}
 use Prim.Native.Nat.{ℕ, zero, suc, ◌+◌, ◌*◌, ◌≤◌, ◌<◌}
 use mathlib.Core.Path.{◌≡◌, refl, sym, ap, ◌∙◌}
 use mathlib.Core.Bool.{Bool, true, false, cond}
@@ -14,13 +15,11 @@ use Rattle.laws.proofs.Lists.{same_default}
 use Rattle.frame.specs.Limits.{lock_count, variable_count}
 use Rattle.frame.specs.declared.Lock.{Lock}
 use Rattle.digits.specs.Digits.{line_of, lines_of}
-use Rattle.digits.specs.declared.Line.TheVariants as line
 use Rattle.digits.proofs.Writing.{length_lines}
 use Rattle.text.specs.Text.{word_in, word_at}
 use Rattle.guards.specs.Guards.{guard_of, guard_variable, guard_lock, guards_read, listed_guard, unprotected_code}
 use Rattle.guards.specs.Listed.{Listed}
 use Rattle.guards.specs.declared.Guard.TheVariants.{Locked, Unprotected, Inferred}
-use Rattle.guards.specs.declared.GuardsReply.TheVariants as reply
 use Rattle.guards.proofs.Laws.{table_length, named_guard}
 use Rattle.guards.proofs.Listed.{accepted_if_listed}
 use Rattle.guards.proofs.Named.{listed_guard_lem}
@@ -72,7 +71,7 @@ module _ (locks : List ℕ) (small : (x : ℕ) → get_or locks x 0 < lock_count
       let l : k < n = omega (arith, long) in
       omega (arith, word_of k l, small k)
 
-  line_of_lem : (i : ℕ) → i < n → line_of naming (9 * i) ≡ line.Word (get_or words i 0)
+  line_of_lem : (i : ℕ) → i < n → line_of naming (9 * i) ≡ Some (get_or words i 0)
   line_of_lem i h = line_at words narrow i (omega (arith, long))
 
   at_line : (i : ℕ) → i < n → word_at naming i ≡ get_or words i 0
@@ -89,14 +88,14 @@ module _ (locks : List ℕ) (small : (x : ℕ) → get_or locks x 0 < lock_count
   naming_listed : Listed naming n
   naming_listed = record {
     size = length_lines words ∙ ap (λ (k : ℕ). 9 * k) long;
-    line_at = λ i h. line_of_lem i h ∙ ap line.Word (sym (at_line i h));
+    line_at = λ i h. line_of_lem i h ∙ ap Some (sym (at_line i h));
     variables = λ i h. omega (arith, variable_at i h);
     locks = λ i h. omega (arith, lock_at i h, small i);
     distinct = λ i j h l e. omega (arith, variable_at i (omega arith), variable_at j l);
   }
 
   -- it is accepted
-  pub naming_accepted : (guards_read naming).reply ≡ reply.Lines n
+  pub naming_accepted : (guards_read naming).reply ≡ Ok n
   naming_accepted = (accepted_if_listed naming n).1 naming_listed
 
   -- and gives each variable its lock

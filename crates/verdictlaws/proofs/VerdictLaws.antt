@@ -1,5 +1,6 @@
 -- The second term over what is handed in. In this order: the verdicts by their tables; the claim of guard lists, from a choice of locks to a
 -- list and back; the planner's call.
+use Rattle.std.specs.Prelude.{Result, Ok, Err}
 use Prim.Native.Nat.{ℕ, ◌≤◌}
 use mathlib.Core.Path.{◌≡◌, refl, sym, ap, ◌∙◌}
 use mathlib.Core.List.{List, []}
@@ -9,17 +10,12 @@ use lib.ListN.{get_or}
 use Rattle.laws.proofs.Logic.{never}
 use Rattle.frame.specs.Limits.{variable_count}
 use Rattle.text.specs.Text.{scanned, words_to}
-use Rattle.text.specs.declared.ReadReply.{ReadReply}
-use Rattle.text.specs.declared.ReadReply.TheVariants as read
 use Rattle.guards.specs.Guards.{guards_read}
 use Rattle.guards.specs.declared.Judgement.TheVariants as judgement
 use Rattle.guards.proofs.Named.{listed_guard_lem}
-use Rattle.reply.specs.Reply.{kind_number, reducible}
+use Rattle.reply.specs.Reply.{kind_number, reducible, Reply}
 use Rattle.reply.specs.declared.Kind.{Kind}
 use Rattle.reply.specs.declared.Kind.TheVariants as kind
-use Rattle.reply.specs.declared.Reply.{Reply}
-use Rattle.reply.specs.declared.Reply.TheVariants as reply
-use Rattle.reply.specs.declared.Verdict.TheVariants as verdict
 use Rattle.pass.specs.Pass.{full_sets}
 use Rattle.pass.proofs.Judgement.{judgement_sound}
 use Rattle.verdict.specs.Verdict.{verdict_under, inferred_end, inferred_reply}
@@ -34,6 +30,7 @@ use Rattle.rules.proofs.Figures.{verdict_is_of_the_rules, inferred_is_of_the_rul
 use Rattle.verdictlaws.specs.VerdictLaws.{Accessed, SomeList, InferredIsSomeList, CheckIsSomeList, CheckIsOfTheRules}
 use Rattle.verdictlaws.proofs.Alike.{accessed_in_range, same_accessed}
 use Rattle.verdictlaws.proofs.Lists.{naming, naming_accepted, naming_table, naming_names, lock_code, table_locks, table_choice, table_locks_lem}
+use Rattle.frame.specs.declared.Refused.{Refused}
 
 -- the inferred verdict is the same with every table that has room, and with none
 same_room : (ws : List ℕ) (m : ℕ) → variable_count ≤ m → inferred_reply ws m ≡ inferred_reply ws variable_count
@@ -47,7 +44,7 @@ on_words list ws = own_table (inferred_end ws).reply
 module _ (ws g k : List ℕ) (same : (x : ℕ) → Accessed ws x → guarding g x ≡ guarding k x) where
   reducible_alike : Reducible g ws → Reducible k ws
   reducible_alike r =
-      let sound = judgement_sound g full_sets ws verdict.Reducible r in
+      let sound = judgement_sound g full_sets ws (Ok tt) r in
       (verdict_is_of_the_rules k ws sound).0.1 (same_accessed (guarding g) (guarding k) same ((verdict_is_of_the_rules g ws sound).0.0 r))
 
 -- the list that names a chosen lock for each variable
@@ -96,9 +93,9 @@ inferred_is_some_list = (
 
 -- the kind of a reply is 0 exactly if it is reducible
 kind_zero : (r : Reply) → reply_kind r ≡ 0 → r ≡ reducible
-kind_zero (reply.Refused x) e = absurd (omega arith)
-kind_zero (reply.Judged verdict.Reducible) e = refl
-kind_zero (reply.Judged (verdict.Violated v)) e = absurd (some v.kind e)
+kind_zero (Err x) e = absurd (omega arith)
+kind_zero (Ok (Ok tt)) e = refl
+kind_zero (Ok (Err v)) e = absurd (some v.kind e)
   where
     some : (k : Kind) → kind_number k ≡ 0 → ⊥
     some kind.GuardNotHeld z = omega arith
@@ -111,18 +108,18 @@ with_line : (r : Reply) (room : ℕ) → line_length ≤ room → kind_answer r 
 with_line r room h = rw (le-ltb room line_length h)
 
 -- the reply to a text that is read is the inferred verdict on the words of its lines
-text_read : (s : List ℕ) (n : ℕ) → scanned s ≡ read.Lines n → (text_judged s).reply ≡ verdict_under judgement.Inferred [] (words_to s n)
+text_read : (s : List ℕ) (n : ℕ) → scanned s ≡ Ok n → (text_judged s).reply ≡ verdict_under judgement.Inferred [] (words_to s n)
 unfolding text_judged
 text_read s n e = rw e
 
 -- a text with a reducible recording is read
-text_reducible : (s : List ℕ) → (text_judged s).reply ≡ reducible → (n : ℕ) × (scanned s ≡ read.Lines n)
+text_reducible : (s : List ℕ) → (text_judged s).reply ≡ reducible → (n : ℕ) × (scanned s ≡ Ok n)
 unfolding text_judged
 text_reducible s e = go (scanned s) refl
   where
-    go : (q : ReadReply) → scanned s ≡ q → (n : ℕ) × (scanned s ≡ read.Lines n)
-    go (read.Lines n) f = (n, f)
-    go (read.Refused x) f = let z : reply.Refused x ≡ reducible = rw f at e in never (cc)
+    go : (q : Result ℕ Refused) → scanned s ≡ q → (n : ℕ) × (scanned s ≡ Ok n)
+    go (Ok n) f = (n, f)
+    go (Err x) f = let z : Err x ≡ reducible = rw f at e in never (cc)
 
 -- The same of the planner's call.
 pub check_is_some_list : CheckIsSomeList

@@ -2,20 +2,16 @@
 -- each accessed variable as its declared guard", where the choice is the text of a guard list; and both sentences of the planner's call, where
 -- the recording is a text.
 -- Quotes are from docs/FORMAT.md.
-use Rattle.std.specs.Prelude.{ℕ, ◌≤◌, ◌<◌, ◌≡◌, ◌↔◌, List, length, get_or}
+use Rattle.std.specs.Prelude.{ℕ, ◌≤◌, ◌<◌, ◌≡◌, ◌↔◌, List, length, get_or, Ok}
 use Rattle.frame.specs.Limits.{variable_count}
 use Rattle.frame.specs.Frame.{decode_word}
 use Rattle.frame.specs.declared.Lock.{Lock}
 use Rattle.frame.specs.declared.Frame.{Frame}
-use Rattle.frame.specs.declared.Decoded.TheVariants as decoded
 use Rattle.text.specs.Text.{scanned, words_to}
-use Rattle.text.specs.declared.ReadReply.TheVariants as read
 use Rattle.guards.specs.Guards.{guards_read, listed_guard}
 use Rattle.guards.specs.declared.Guard.TheVariants as guard
-use Rattle.guards.specs.declared.GuardsReply.TheVariants as guards
 use Rattle.guards.specs.declared.Judgement.TheVariants as judgement
 use Rattle.soundness.specs.Soundness.{check_reply}
-use Rattle.soundness.specs.declared.CheckReply.TheVariants as check
 use Rattle.reply.specs.Reply.{reducible}
 use Rattle.verdict.specs.Verdict.{verdict_under, inferred_reply}
 use Rattle.line.specs.Line.{line_length}
@@ -28,7 +24,7 @@ pub record Accessed (ws : List ℕ) (x : ℕ) : Type 0 where
   pub place : ℕ
   pub within : place < length ws
   pub frame : Frame
-  pub is : decode_word (get_or ws place 0) ≡ decoded.Frame frame
+  pub is : decode_word (get_or ws place 0) ≡ Ok frame
   pub accesses : Accesses frame.action (record { 0 = x })
 
 -- "one lock for each accessed variable": the n lines of the list name a lock for each variable that the recording accesses.
@@ -39,7 +35,7 @@ NamesAccessed list n ws = (x : ℕ) → Accessed ws x → (l : Lock) × (listed_
 pub record SomeList (ws : List ℕ) : Type 0 where
   pub list : List ℕ
   pub n : ℕ
-  pub accepted : (guards_read list).reply ≡ guards.Lines n
+  pub accepted : (guards_read list).reply ≡ Ok n
   pub names : NamesAccessed list n ws
   pub judged : verdict_under judgement.Declared list ws ≡ reducible
 
@@ -55,11 +51,11 @@ InferredIsSomeList =
 abbrev pub CheckIsSomeList : Type 0
 CheckIsSomeList =
     (s : List ℕ) (room : ℕ) → line_length ≤ room
-    → (kind_answer (text_judged s).reply room ≡ 0 ↔ ((n : ℕ) × (scanned s ≡ read.Lines n) × SomeList (words_to s n)))
+    → (kind_answer (text_judged s).reply room ≡ 0 ↔ ((n : ℕ) × (scanned s ≡ Ok n) × SomeList (words_to s n)))
 
 -- Term 2's first sentence of the planner's call: its reply to a text that is read, with a sound recording, is that of the rules, where every
 -- guard is inferred.
 abbrev pub CheckIsOfTheRules : Type 0
 CheckIsOfTheRules =
-    (s : List ℕ) (n : ℕ) → scanned s ≡ read.Lines n → check_reply (words_to s n) ≡ check.Sound
+    (s : List ℕ) (n : ℕ) → scanned s ≡ Ok n → check_reply (words_to s n) ≡ (Ok tt)
     → OfTheRules (λ x. guard.Inferred) (words_to s n) (text_judged s).reply

@@ -1,12 +1,10 @@
 -- A violation in words, in the manner of 000, figure 2: where the block began, where and by what it committed, which frame goes wrong, why,
 -- and what to do. What the slots of a sentence stand for is said by `piece` (crate sentence).
 -- Quotes are from docs/FORMAT.md.
-use Rattle.std.specs.Prelude.{ℕ, Bool, true, false, List, ◌++◌}
+use Rattle.std.specs.Prelude.{ℕ, Bool, true, false, List, ◌++◌, Option, Some, None}
 use Prim.Native.String.{String}
 use Rattle.reply.specs.declared.Kind.{Kind}
 use Rattle.reply.specs.declared.Kind.TheVariants as kind
-use Rattle.reply.specs.declared.Mark.{Mark}
-use Rattle.reply.specs.declared.Mark.TheVariants as mark
 use Rattle.reply.specs.declared.Violation.{Violation}
 use Rattle.output.specs.Output.{bytes}
 use Rattle.sentence.specs.Sentence.{known, filled}
@@ -21,11 +19,11 @@ kind_sentence kind.SetEmptied = "violation: kind 4, candidate set emptied, by th
 
 -- The thread's block: "Begin is absent outside a block, commit is absent there and before commit." Here and below: whether the frame is
 -- known. Of a kept line it is not: "a line has no actions and no variables" (docs/TOOL.md).
-abbrev pub block_sentence : Mark → Mark → Bool → String
-block_sentence mark.Absent c k = "  The thread is in no block.\n"
-block_sentence (mark.At b) mark.Absent k = "  The block begins at < and has not committed.\n"
-block_sentence (mark.At b) (mark.At c) true = "  The block begins at <.\n  It commits at >: ^.\n"
-block_sentence (mark.At b) (mark.At c) false = "  The block begins at <.\n  It commits at >.\n"
+abbrev pub block_sentence : Option ℕ → Option ℕ → Bool → String
+block_sentence None c k = "  The thread is in no block.\n"
+block_sentence (Some b) None k = "  The block begins at < and has not committed.\n"
+block_sentence (Some b) (Some c) true = "  The block begins at <.\n  It commits at >: ^.\n"
+block_sentence (Some b) (Some c) false = "  The block begins at <.\n  It commits at >.\n"
 
 abbrev pub frame_sentence : Bool → String
 frame_sentence true = "  It goes wrong at @: *.\n"

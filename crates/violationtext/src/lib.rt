@@ -8,7 +8,7 @@ ghost use Rattle.output.specs.Output.{bytes, behind, written};
 ghost use Rattle.sentence.specs.Sentence.{filled};
 ghost use Rattle.violationtext.specs.ViolationText.{kind_sentence, block_sentence, frame_sentence, why_sentence, remedy_sentence, violation_text};
 
-use reply::{Kind, Mark, Violation};
+use reply::{Kind, Violation};
 use sentence::{Facts, say};
 
 // What happened.
@@ -28,20 +28,27 @@ fn say_kind(out: &mut [u8], at: usize, kind: Kind, f: Facts) -> usize
 }
 
 // The thread's block. Here and below: whether the frame is known.
-fn say_block(out: &mut [u8], at: usize, begin: Mark, commit: Mark, known: bool, f: Facts) -> usize
+fn say_block(
+    out: &mut [u8],
+    at: usize,
+    begin: Option<u32>,
+    commit: Option<u32>,
+    known: bool,
+    f: Facts,
+) -> usize
     ensures place { result ≡ behind (length out.old) at (filled f (bytes (block_sentence begin commit known))) }
     ensures contents { out.new ≡ written out.old at (filled f (bytes (block_sentence begin commit known))) }
 {
     match begin {
-        Mark::Absent => say(out, at, b"  The thread is in no block.\n", f),
-        Mark::At(b) => match commit {
-            Mark::Absent => say(
+        None => say(out, at, b"  The thread is in no block.\n", f),
+        Some(b) => match commit {
+            None => say(
                 out,
                 at,
                 b"  The block begins at < and has not committed.\n",
                 f,
             ),
-            Mark::At(c) => {
+            Some(c) => {
                 if known {
                     return say(
                         out,

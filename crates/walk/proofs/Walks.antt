@@ -1,4 +1,5 @@
 -- The walks, turn by turn: where a walk stands, the one that writes words, the one that writes displacements.
+use Rattle.std.specs.Prelude.{Ok, Option}
 use Prim.Native.Nat.{ℕ, ◌+◌, ◌-◌, ◌<◌, ◌≤◌}
 use mathlib.Core.Path.{◌≡◌, refl, sym, ap, ◌∙◌, subst}
 use mathlib.Core.List.{List, [], ◌++◌}
@@ -14,9 +15,7 @@ use Rattle.frame.specs.Frame.{decode_word}
 use Rattle.frame.specs.declared.Action.{Action}
 use Rattle.frame.specs.declared.Action.TheVariants as action
 use Rattle.frame.specs.declared.Frame.{Frame}
-use Rattle.frame.specs.declared.Decoded.TheVariants as decoded
 use Rattle.soundness.specs.Soundness.{nest}
-use Rattle.reply.specs.declared.Mark.{Mark}
 use Rattle.commit.specs.Commit.{Tables, tables_of, start_tables, counted, Raisable, visited, unit_start}
 use Rattle.serial.specs.Walk.{unit_in, walk_from, walk_of, walk_words}
 use Rattle.displacement.specs.Displacement.{places, moved}
@@ -76,7 +75,7 @@ module _ {A : Type 0} (guards words : List ℕ) (xs : List A) (i : ℕ) where
   unfolding walk_from
   walk_over x h = rw (drop_of_length-le words h)
 
-  module _ (h : i < length words) {f : Frame} (e : decode_word (get_or words i 0) ≡ decoded.Frame f) (x : Tables) {m : Mark} (s : m ≡ unit_start guards i f x) where
+  module _ (h : i < length words) {f : Frame} (e : decode_word (get_or words i 0) ≡ Ok f) (x : Tables) {m : (Option ℕ)} (s : m ≡ unit_start guards i f x) where
     walk_here : walk_from guards words xs i x (drop i words)
         ≡ unit_in m words xs f.thread ++ walk_from guards words xs (i + 1) (visited guards i f x) (drop (i + 1) words)
     unfolding walk_from
@@ -108,7 +107,7 @@ module _ {words guards out₀ out counts depths starts committed : List ℕ} {at
   order_done h = subst (λ (l : List ℕ). Written out₀ out at (walk_words guards words) l)
       (walk_over guards words words i (tables_of counts depths starts committed) h) inv.written
 
-  module _ (h : i < length words) {f : Frame} (e : decode_word (get_or words i 0) ≡ decoded.Frame f) {m : Mark}
+  module _ (h : i < length words) {f : Frame} (e : decode_word (get_or words i 0) ≡ Ok f) {m : (Option ℕ)}
       (s : m ≡ unit_start guards i f (tables_of counts depths starts committed)) (r : length (walk_words guards words) ≤ length out₀) where
     abbrev unit : List ℕ
     unit = unit_in m words words f.thread
@@ -149,7 +148,7 @@ module _ {words guards : List ℕ} {out₀ out : List ℤ} {counts depths starts
   unfolding moved
   moves_done h = sym (rw (walk_over guards words (places words) i (tables_of counts depths starts committed) h) at inv.written)
 
-  module _ (h : i < length words) {f : Frame} (e : decode_word (get_or words i 0) ≡ decoded.Frame f) {m : Mark}
+  module _ (h : i < length words) {f : Frame} (e : decode_word (get_or words i 0) ≡ Ok f) {m : (Option ℕ)}
       (s : m ≡ unit_start guards i f (tables_of counts depths starts committed)) where
     abbrev moved_unit : List ℕ
     moved_unit = unit_in m words (places words) f.thread

@@ -8,14 +8,13 @@ ghost use Rattle.frame.specs.Limits.{most_frames};
 ghost use Rattle.serial.specs.Walk.{walk_of, walk_words};
 ghost use Rattle.displacement.specs.Displacement.{places, moved};
 
-use frame::{Decoded, LOCKS, Refused, THREADS, VARIABLES};
-use soundness::CheckReply;
+use frame::{LOCKS, Refused, THREADS, VARIABLES};
 
 // The units of a sound recording, each written where the one before stopped.
-pub fn write_order(words: &[u32], guards: &[u8; VARIABLES], out: &mut [u32]) -> CheckReply
-    requires fact_1 { check_reply words.now ≡ CheckReply.Sound }
+pub fn write_order(words: &[u32], guards: &[u8; VARIABLES], out: &mut [u32]) -> Result<(), Refused>
+    requires fact_1 { check_reply words.now ≡ (Ok tt) }
     requires fact_2 { length (walk_words guards.now words.now) ≤ length out.old }
-    ensures reply { result ≡ CheckReply.Sound }
+    ensures reply { result ≡ (Ok tt) }
     ensures contents { out.new ≡ walk_words guards.now words.now ++ drop (length (walk_words guards.now words.now)) out.old }
 {
     let mut counts = [0u32; LOCKS];
@@ -26,8 +25,8 @@ pub fn write_order(words: &[u32], guards: &[u8; VARIABLES], out: &mut [u32]) -> 
     let mut i: usize = 0;
     while i < words.len() {
         let d = frame::decode(words[i]);
-        let Decoded::Frame(f) = d else {
-            return CheckReply::Refused(Refused {
+        let Ok(f) = d else {
+            return Err(Refused {
                 reason: frame::refusal_of(d),
                 place: i as u32,
             });
@@ -45,15 +44,19 @@ pub fn write_order(words: &[u32], guards: &[u8; VARIABLES], out: &mut [u32]) -> 
         at = serial::write_at(words, start, thread, out, at);
         i += 1;
     }
-    CheckReply::Sound
+    Ok(())
 }
 
 // The displacements of a sound recording's frames, those of each unit where it commits.
-pub fn write_moves(words: &[u32], guards: &[u8; VARIABLES], moves: &mut [i32]) -> CheckReply
-    requires fact_1 { check_reply words.now ≡ CheckReply.Sound }
+pub fn write_moves(
+    words: &[u32],
+    guards: &[u8; VARIABLES],
+    moves: &mut [i32],
+) -> Result<(), Refused>
+    requires fact_1 { check_reply words.now ≡ (Ok tt) }
     requires fact_2 { length words.now ≤ length moves.old }
     requires fact_3 { length (walk_of guards.now words.now (places words.now)) ≤ most_frames }
-    ensures reply { result ≡ CheckReply.Sound }
+    ensures reply { result ≡ (Ok tt) }
     ensures contents { moves.new ≡ moved 0 (walk_of guards.now words.now (places words.now)) moves.old }
 {
     let mut counts = [0u32; LOCKS];
@@ -64,8 +67,8 @@ pub fn write_moves(words: &[u32], guards: &[u8; VARIABLES], moves: &mut [i32]) -
     let mut p: usize = 0;
     while p < words.len() {
         let d = frame::decode(words[p]);
-        let Decoded::Frame(f) = d else {
-            return CheckReply::Refused(Refused {
+        let Ok(f) = d else {
+            return Err(Refused {
                 reason: frame::refusal_of(d),
                 place: p as u32,
             });
@@ -83,5 +86,5 @@ pub fn write_moves(words: &[u32], guards: &[u8; VARIABLES], moves: &mut [i32]) -
         k = displacement::move_at(words, start, thread, moves, k);
         p += 1;
     }
-    CheckReply::Sound
+    Ok(())
 }

@@ -1,20 +1,18 @@
 -- The cases of docs/FORMAT.md that are marked *, as rows of one list, and the claim that every row holds. Words are written as there; a
 -- recording under inferred guards goes in as text, as the planner hands it in.
-use Rattle.std.specs.Prelude.{ℕ, ◌≡◌, Bool, true, false, ◌&&◌, List, [], ◌∷◌, ◌++◌, eqb, ℤ, pos, negsuc, neg_ℤ, length, replicate}
+use Rattle.std.specs.Prelude.{ℕ, ◌≡◌, Bool, true, false, ◌&&◌, List, [], ◌∷◌, ◌++◌, eqb, ℤ, pos, negsuc, neg_ℤ, length, replicate, Option, Result, Ok, Err}
 use Prim.Native.String.{String}
 use Rattle.guards.specs.declared.Judgement.TheVariants.{Declared}
 use Rattle.verdict.specs.Verdict.{verdict_under}
 use Rattle.guards.specs.Guards.{no_guards, inferred_guards}
 use Rattle.equal.specs.Equal.{equal_reply}
-use Rattle.equal.specs.declared.EqualReply.{EqualReply}
-use Rattle.equal.specs.declared.EqualReply.TheVariants.{Equal, Different, Refused}
+use Rattle.equal.specs.declared.RefusedSide.{RefusedSide}
 use Rattle.serial.specs.Order.{commits}
 use Rattle.displacement.specs.Displacement.{ordered_places, displacements}
 use Rattle.digits.specs.Digits.{digits}
 use Rattle.line.specs.Line.{place_width, mark_field, field_mark, reply_fields, verdict_line}
 use Rattle.output.specs.Output.{bytes}
 use Rattle.line.specs.declared.Fields.{Fields}
-use Rattle.line.specs.declared.LineMark.{LineMark}
 use Rattle.answer.specs.Answer.{text_judged}
 
 -- The text of words: eight digits and an LF each.
@@ -43,7 +41,7 @@ fields k f t b c l = record { kind = k; frame = f; thread = t; begin = field_mar
 abbrev pub absent : ℕ
 absent = 0xFFFF
 
-abbrev pub same_mark : LineMark → LineMark → Bool
+abbrev pub same_mark : Option ℕ → Option ℕ → Bool
 same_mark x y = eqb (mark_field place_width x) (mark_field place_width y)
 
 abbrev pub same_fields : Fields → Fields → Bool
@@ -72,15 +70,15 @@ same_signed_numbers (x ∷ xs) (y ∷ ys) = same_signed x y && same_signed_numbe
 abbrev pub minus : ℕ → ℤ
 minus n = neg_ℤ (pos n)
 
-abbrev pub is_equal : EqualReply → Bool
-is_equal Equal = true
-is_equal Different = false
-is_equal (Refused s r) = false
+abbrev pub is_equal : Result Bool RefusedSide → Bool
+is_equal (Ok true) = true
+is_equal (Ok false) = false
+is_equal (Err r) = false
 
-abbrev pub is_different : EqualReply → Bool
-is_different Equal = false
-is_different Different = true
-is_different (Refused s r) = false
+abbrev pub is_different : Result Bool RefusedSide → Bool
+is_different (Ok true) = false
+is_different (Ok false) = true
+is_different (Err r) = false
 
 abbrev pub holds : Row → Bool
 holds (planner text expected) = same_numbers (verdict_line (text_judged (bytes text)).reply (text_judged (bytes text)).frames) (bytes expected)

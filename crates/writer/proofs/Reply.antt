@@ -1,4 +1,5 @@
 -- The reply by the room that a text has, and what the text is left with.
+use Rattle.std.specs.Prelude.{Result, Ok, Err}
 use Prim.Native.Nat.{ℕ, ◌+◌, ◌-◌, ◌*◌, ◌≤◌}
 use mathlib.Core.Path.{◌≡◌, refl, sym, ap, ◌∙◌}
 use mathlib.Core.Bool.{Bool, true, false}
@@ -13,43 +14,40 @@ use Rattle.frame.specs.declared.Refused.{Refused}
 use Rattle.frame.specs.declared.Refusal.TheVariants as refusal
 use Rattle.digits.specs.Digits.{lines_of, pasted}
 use Rattle.soundness.specs.Soundness.{check_reply}
-use Rattle.soundness.specs.declared.CheckReply.TheVariants as check
-use Rattle.writer.specs.declared.WriteReply.{WriteReply}
-use Rattle.writer.specs.declared.WriteReply.TheVariants as reply
 use Rattle.writer.specs.Writer.{room_reply, write_reply, text_after}
 
 -- where there is room, the bytes are nine for each frame, and stand in the text
-pub has_room : (n size at k : ℕ) → room_reply n size at ≡ reply.Written k → (k ≡ 9 * n) × (at + 9 * n ≤ size)
+pub has_room : (n size at k : ℕ) → room_reply n size at ≡ Ok k → (k ≡ 9 * n) × (at + 9 * n ≤ size)
 has_room n size at k e = go (ltb size at) refl (ltb (size - at) (9 * n)) refl
   where
     go : (b : Bool) → ltb size at ≡ b → (c : Bool) → ltb (size - at) (9 * n) ≡ c → (k ≡ 9 * n) × (at + 9 * n ≤ size)
-    go true p c q = let z : ◌≡◌ {A = WriteReply} (reply.Refused (refused_at refusal.TextBuffer (9 * n))) (reply.Written k) = rw p at e in never (cc)
-    go false p true q = let z : ◌≡◌ {A = WriteReply} (reply.Refused (refused_at refusal.TextBuffer (9 * n))) (reply.Written k) = rw (p, q) at e in never (cc)
+    go true p c q = let z : ◌≡◌ {A = (Result ℕ Refused)} (Err (refused_at refusal.TextBuffer (9 * n))) (Ok k) = rw p at e in never (cc)
+    go false p true q = let z : ◌≡◌ {A = (Result ℕ Refused)} (Err (refused_at refusal.TextBuffer (9 * n))) (Ok k) = rw (p, q) at e in never (cc)
     go false p false q =
-        let z : ◌≡◌ {A = WriteReply} (reply.Written (9 * n)) (reply.Written k) = rw (p, q) at e in
+        let z : ◌≡◌ {A = (Result ℕ Refused)} (Ok (9 * n)) (Ok k) = rw (p, q) at e in
         let w : 9 * n ≡ k = cc in
         (sym w, omega (arith, ltb-false size at p, ltb-false (size - at) (9 * n) q))
 
 -- a sound recording, and the reply r by the room
-module _ (ws text : List ℕ) (at : ℕ) {r : WriteReply} (sound : check_reply ws ≡ check.Sound) (e : r ≡ room_reply (length ws) (length text) at) where
+module _ (ws text : List ℕ) (at : ℕ) {r : (Result ℕ Refused)} (sound : check_reply ws ≡ (Ok tt)) (e : r ≡ room_reply (length ws) (length text) at) where
   by_room : r ≡ write_reply ws (length text) at
   unfolding write_reply
   by_room = rw sound e
 
-  pub refused_after : {x : Refused} → r ≡ reply.Refused x → (r ≡ write_reply ws (length text) at) × (text ≡ text_after (write_reply ws (length text) at) ws text at)
-  refused_after {x} q = (by_room, sym (ap (λ (z : WriteReply). text_after z ws text at) (sym by_room ∙ q)))
+  pub refused_after : {x : Refused} → r ≡ Err x → (r ≡ write_reply ws (length text) at) × (text ≡ text_after (write_reply ws (length text) at) ws text at)
+  refused_after {x} q = (by_room, sym (ap (λ (z : Result ℕ Refused). text_after z ws text at) (sym by_room ∙ q)))
 
-  pub room_for : {k : ℕ} → r ≡ reply.Written k → at + 9 * length ws ≤ length text
+  pub room_for : {k : ℕ} → r ≡ Ok k → at + 9 * length ws ≤ length text
   room_for {k} q = (has_room (length ws) (length text) at k (sym e ∙ q)).1
 
-  pub written_after : {k : ℕ} {out : List ℕ} → r ≡ reply.Written k → out ≡ pasted text at (9 * length ws) (lines_of ws)
+  pub written_after : {k : ℕ} {out : List ℕ} → r ≡ Ok k → out ≡ pasted text at (9 * length ws) (lines_of ws)
       → (r ≡ write_reply ws (length text) at) × (out ≡ text_after (write_reply ws (length text) at) ws text at)
   written_after {k} {out} q p =
       let n = (has_room (length ws) (length text) at k (sym e ∙ q)).0 in
-      (by_room, p ∙ ap (λ (z : ℕ). pasted text at z (lines_of ws)) (sym n) ∙ sym (ap (λ (z : WriteReply). text_after z ws text at) (sym by_room ∙ q)))
+      (by_room, p ∙ ap (λ (z : ℕ). pasted text at z (lines_of ws)) (sym n) ∙ sym (ap (λ (z : Result ℕ Refused). text_after z ws text at) (sym by_room ∙ q)))
 
 -- a recording that is refused
-pub check_refused : (ws text : List ℕ) (at : ℕ) (x : Refused) → check_reply ws ≡ check.Refused x
-    → (reply.Refused x ≡ write_reply ws (length text) at) × (text ≡ text_after (write_reply ws (length text) at) ws text at)
+pub check_refused : (ws text : List ℕ) (at : ℕ) (x : Refused) → check_reply ws ≡ Err x
+    → (Err x ≡ write_reply ws (length text) at) × (text ≡ text_after (write_reply ws (length text) at) ws text at)
 unfolding write_reply
 check_refused ws text at x e = (rw e refl, rw e refl)

@@ -8,34 +8,26 @@ ghost use Rattle.frame.specs.Limits.{most_frames};
 ghost use Rattle.writer.specs.Writer.{room_reply, write_reply, text_after};
 
 use frame::{Refusal, Refused};
-use soundness::CheckReply;
-
-// The number of bytes written, or why nothing is.
-#[derive(Clone, Copy)]
-pub enum WriteReply {
-    Written(u32),
-    Refused(Refused),
-}
 
 // Whether a text of so many bytes has room from a place on for the lines of so many frames.
-fn room(frames: usize, size: usize, place: usize) -> WriteReply
+fn room(frames: usize, size: usize, place: usize) -> Result<u32, Refused>
     requires { frames ≤ most_frames }
     ensures { result ≡ room_reply frames size place }
 {
     let bytes = 9 * frames as u32;
     if size < place {
-        return WriteReply::Refused(Refused {
+        return Err(Refused {
             reason: Refusal::TextBuffer,
             place: bytes,
         });
     }
     if size - place < bytes as usize {
-        return WriteReply::Refused(Refused {
+        return Err(Refused {
             reason: Refusal::TextBuffer,
             place: bytes,
         });
     }
-    WriteReply::Written(bytes)
+    Ok(bytes)
 }
 
 // The line of a word, written at a place.
@@ -62,16 +54,16 @@ fn write_lines(words: &[u32], text: &mut [u8], place: usize)
 }
 
 // A sound recording as text, from a place on: all checks are made before a byte is written.
-pub fn write_recording(words: &[u32], text: &mut [u8], place: usize) -> WriteReply
+pub fn write_recording(words: &[u32], text: &mut [u8], place: usize) -> Result<u32, Refused>
     ensures reply { result ≡ write_reply words.now (length text.old) place }
     ensures contents { text.new ≡ text_after (write_reply words.now (length text.old) place) words.now text.old place }
 {
     let q = quick::check(words);
     match q {
-        CheckReply::Refused(x) => WriteReply::Refused(x),
-        CheckReply::Sound => {
+        Err(x) => Err(x),
+        Ok(()) => {
             let r = room(words.len(), text.len(), place);
-            let WriteReply::Written(_) = r else {
+            let Ok(_) = r else {
                 return r;
             };
             write_lines(words, text, place);

@@ -9,23 +9,23 @@ use Rattle.answer.proofs.judge_text.Goals as goal
 pub slice_bounds-words-end : goal.slice_bounds-words-end
 slice_bounds-words-end c =
     let r = c.read_into-q in
-    let w = after_into c.args.text.now (replicate most_frames 0) c.in-Lines.n r.new.words r.result c.in-Lines.is r.ensures.contents in
+    let w = after_into c.args.text.now (replicate most_frames 0) c.in-Ok.n r.new.words r.result c.in-Ok.is r.ensures.contents in
     w.fits
 
-pub slice_bounds-judge-end-in-Lines : goal.slice_bounds-judge-end-in-Lines
-slice_bounds-judge-end-in-Lines c =
+pub slice_bounds-judge-end-in-Ok : goal.slice_bounds-judge-end-in-Ok
+slice_bounds-judge-end-in-Ok c =
     let r = c.read_into-q in
-    let w = after_into c.args.text.now (replicate most_frames 0) c.in-Lines.n r.new.words r.result c.in-Lines.is r.ensures.contents in
+    let w = after_into c.args.text.now (replicate most_frames 0) c.in-Ok.n r.new.words r.result c.in-Ok.is r.ensures.contents in
     sym (length-take-le _ _ w.fits)
 
-pub returns-in-Lines : goal.returns-in-Lines
+pub returns-in-Ok : goal.returns-in-Ok
 unfolding text_judged
-returns-in-Lines c =
+returns-in-Ok c =
     let r = c.read_into-q in
-    let w = after_into c.args.text.now (replicate most_frames 0) c.in-Lines.n r.new.words r.result c.in-Lines.is r.ensures.contents in
+    let w = after_into c.args.text.now (replicate most_frames 0) c.in-Ok.n r.new.words r.result c.in-Ok.is r.ensures.contents in
     let e = rw w.words at c.judge-r.ensures in
-    rw (sym r.ensures.reply ∙ c.in-Lines.is, e)
+    rw (sym r.ensures.reply ∙ c.in-Ok.is, e)
 
-pub returns-in-Refused : goal.returns-in-Refused
+pub returns-in-Err : goal.returns-in-Err
 unfolding text_judged
-returns-in-Refused c = rw (sym c.read_into-q.ensures.reply ∙ c.in-Refused.is)
+returns-in-Err c = rw (sym c.read_into-q.ensures.reply ∙ c.in-Err.is)

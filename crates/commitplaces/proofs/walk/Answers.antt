@@ -22,7 +22,7 @@ visit-start-requires c =
     let l = c.loop-i.invariant.stands in
     let t = c.loop-i-test.true in
     record {
-      fact_1 = decoded_in_range _ _ (sym c.decode-d.ensures ∙ c.in-Frame.is);
+      fact_1 = decoded_in_range _ _ (sym c.decode-d.ensures ∙ c.in-Ok.is);
       fact_2 = counts_fit l t c.requires;
       fact_3 = depths_fit l t c.requires;
     }
@@ -41,7 +41,7 @@ loop-i-smaller c = omega (arith, c.loop-i-test.true)
 
 pub loop-i-preserved : goal.loop-i-preserved
 loop-i-preserved c =
-    next c.loop-i.invariant c.loop-i-test.true (sym c.decode-d.ensures ∙ c.in-Frame.is) c.visit-start.ensures.start c.visit-start.ensures.tables c.note.auto.commits c.note.ensures
+    next c.loop-i.invariant c.loop-i-test.true (sym c.decode-d.ensures ∙ c.in-Ok.is) c.visit-start.ensures.start c.visit-start.ensures.tables c.note.auto.commits c.note.ensures
 
 pub shape_of-commits : goal.shape_of-commits
 shape_of-commits c = c.loop-i.invariant.long

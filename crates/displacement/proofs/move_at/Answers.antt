@@ -18,12 +18,12 @@ move_unit-requires c =
     record {
       fact_1 = c.requires.fact_1;
       fact_2 = c.requires.fact_2;
-      fact_3 = rw c.in-At.is at c.requires.fact_3;
+      fact_3 = rw c.in-Some.is at c.requires.fact_3;
     }
 
 pub returns : goal.returns
 returns c =
     record {
-      behind = rw c.in-At.is c.move_unit.ensures.behind;
-      contents = rw c.in-At.is c.move_unit.ensures.contents;
+      behind = rw c.in-Some.is c.move_unit.ensures.behind;
+      contents = rw c.in-Some.is c.move_unit.ensures.contents;
     }

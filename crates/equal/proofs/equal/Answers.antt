@@ -2,11 +2,11 @@
 use mathlib.Core.Path.{sym, ◌∙◌}
 use Rattle.equal.proofs.equal.Goals as goal
 
-pub returns-in-Refused : goal.returns-in-Refused
-returns-in-Refused c = rw (sym c.check-l.ensures ∙ c.in-Refused.is)
+pub returns-in-Err : goal.returns-in-Err
+returns-in-Err c = rw (sym c.check-l.ensures ∙ c.in-Err.is)
 
-pub returns-in-Refused-r : goal.returns-in-Refused-r
-returns-in-Refused-r c = rw (sym c.check-l.ensures ∙ c.in_default.is, sym c.check-r.ensures ∙ c.in-Refused-r.is)
+pub returns-in-Err-r : goal.returns-in-Err-r
+returns-in-Err-r c = rw (sym c.check-l.ensures ∙ c.in_default.is, sym c.check-r.ensures ∙ c.in-Err-r.is)
 
 pub same-requires : goal.same-requires
 same-requires c =

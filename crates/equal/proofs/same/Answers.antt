@@ -23,7 +23,7 @@ returns-in_default c =
     sound_not_bad c.args.left.now c.requires.fact_1 c.loop-i.i c.loop-i-test.true (sym c.decode-d.ensures ∙ c.in_default.is)
 
 pub bounds-next-t : goal.bounds-next-t
-bounds-next-t c = (decoded_in_range _ _ (sym c.decode-d.ensures ∙ c.in-Frame.is)).thread
+bounds-next-t c = (decoded_in_range _ _ (sym c.decode-d.ensures ∙ c.in-Ok.is)).thread
 
 pub find-p-requires : goal.find-p-requires
 find-p-requires c =
@@ -34,28 +34,28 @@ find-p-requires c =
 
 pub returns-then-p-right : goal.returns-then-p-right
 returns-then-p-right c =
-    missing c.loop-i.invariant c.loop-i-test.true (sym c.decode-d.ensures ∙ c.in-Frame.is) c.find-p.ensures c.if-p-right.true
+    missing c.loop-i.invariant c.loop-i-test.true (sym c.decode-d.ensures ∙ c.in-Ok.is) c.find-p.ensures c.if-p-right.true
 
 pub returns-then-right-p : goal.returns-then-right-p
 returns-then-right-p c =
-    words_differ c.loop-i.invariant c.loop-i-test.true (sym c.decode-d.ensures ∙ c.in-Frame.is) c.find-p.ensures c.if-right-p.true
+    words_differ c.loop-i.invariant c.loop-i-test.true (sym c.decode-d.ensures ∙ c.in-Ok.is) c.find-p.ensures c.if-right-p.true
 
 pub overflow_cast-q : goal.overflow_cast-q
 overflow_cast-q c = omega (arith, c.find-p.ensures.within, sound_fits c.args.right.now c.requires.fact_2)
 
 pub note_last-requires : goal.note_last-requires
-note_last-requires c = (decoded_in_range _ _ (sym c.decode-d.ensures ∙ c.in-Frame.is)).object
+note_last-requires c = (decoded_in_range _ _ (sym c.decode-d.ensures ∙ c.in-Ok.is)).object
 
 pub returns-then-not-note_last : goal.returns-then-not-note_last
 returns-then-not-note_last c =
-    too_early c.loop-i.invariant c.loop-i-test.true (sym c.decode-d.ensures ∙ c.in-Frame.is) c.find-p.ensures (ltb-false _ _ (sym c.note_last.ensures.below ∙ c.if-not-note_last.true))
+    too_early c.loop-i.invariant c.loop-i-test.true (sym c.decode-d.ensures ∙ c.in-Ok.is) c.find-p.ensures (ltb-false _ _ (sym c.note_last.ensures.below ∙ c.if-not-note_last.true))
 
 pub bounds-next-t-in-loop-i : goal.bounds-next-t-in-loop-i
-bounds-next-t-in-loop-i c = (decoded_in_range _ _ (sym c.decode-d.ensures ∙ c.in-Frame.is)).thread
+bounds-next-t-in-loop-i c = (decoded_in_range _ _ (sym c.decode-d.ensures ∙ c.in-Ok.is)).thread
 
 pub loop-i-preserved : goal.loop-i-preserved
 loop-i-preserved c =
-    go_on c.loop-i.invariant c.loop-i-test.true (sym c.decode-d.ensures ∙ c.in-Frame.is) c.find-p.ensures c.if-p-right.false c.if-right-p.false (ltb-true _ _ (sym c.note_last.ensures.below ∙ c.if-not-note_last.false)) c.note_last.ensures.noted
+    go_on c.loop-i.invariant c.loop-i-test.true (sym c.decode-d.ensures ∙ c.in-Ok.is) c.find-p.ensures c.if-p-right.false c.if-right-p.false (ltb-true _ _ (sym c.note_last.ensures.below ∙ c.if-not-note_last.false)) c.note_last.ensures.noted
 
 pub returns : goal.returns
 returns c = walk_end c.requires.fact_1 c.loop-i.invariant c.loop-i-test.false

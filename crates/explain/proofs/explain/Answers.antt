@@ -7,28 +7,28 @@ pub returns-then-frames-eq0 : goal.returns-then-frames-eq0
 unfolding bytes
 returns-then-frames-eq0 c =
     record {
-      place = rw (c.in-Judged.is, c.in-Reducible.is, eq-eqb _ _ c.if-frames-eq0.true) (rw c.place_facts-f.ensures at c.say.ensures.place);
-      contents = rw (c.in-Judged.is, c.in-Reducible.is, eq-eqb _ _ c.if-frames-eq0.true) (rw c.place_facts-f.ensures at c.say.ensures.contents);
+      place = rw (c.in-Ok.is, c.in-Ok.is, eq-eqb _ _ c.if-frames-eq0.true) (rw c.place_facts-f.ensures at c.say.ensures.place);
+      contents = rw (c.in-Ok.is, c.in-Ok.is, eq-eqb _ _ c.if-frames-eq0.true) (rw c.place_facts-f.ensures at c.say.ensures.contents);
     }
 
-pub returns-in-Refused : goal.returns-in-Refused
-returns-in-Refused c =
+pub returns-in-Err : goal.returns-in-Err
+returns-in-Err c =
     record {
-      place = rw c.in-Refused.is c.explain_refusal.ensures.place;
-      contents = rw c.in-Refused.is c.explain_refusal.ensures.contents;
+      place = rw c.in-Err.is c.explain_refusal.ensures.place;
+      contents = rw c.in-Err.is c.explain_refusal.ensures.contents;
     }
 
 pub returns-else-frames-eq0 : goal.returns-else-frames-eq0
 unfolding bytes
 returns-else-frames-eq0 c =
     record {
-      place = rw (c.in-Judged.is, c.in-Reducible.is, ne_eqb _ _ c.if-frames-eq0.false) (rw c.place_facts-f.ensures at c.say-in-Reducible.ensures.place);
-      contents = rw (c.in-Judged.is, c.in-Reducible.is, ne_eqb _ _ c.if-frames-eq0.false) (rw c.place_facts-f.ensures at c.say-in-Reducible.ensures.contents);
+      place = rw (c.in-Ok.is, c.in-Ok.is, ne_eqb _ _ c.if-frames-eq0.false) (rw c.place_facts-f.ensures at c.say-in-Ok.ensures.place);
+      contents = rw (c.in-Ok.is, c.in-Ok.is, ne_eqb _ _ c.if-frames-eq0.false) (rw c.place_facts-f.ensures at c.say-in-Ok.ensures.contents);
     }
 
-pub returns-in-Violated : goal.returns-in-Violated
-returns-in-Violated c =
+pub returns-in-Err : goal.returns-in-Err
+returns-in-Err c =
     record {
-      place = rw (c.in-Judged.is, c.in-Violated.is) (rw c.violation_facts-f.ensures at c.say_violation.ensures.place);
-      contents = rw (c.in-Judged.is, c.in-Violated.is) (rw c.violation_facts-f.ensures at c.say_violation.ensures.contents);
+      place = rw (c.in-Ok.is, c.in-Err.is) (rw c.violation_facts-f.ensures at c.say_violation.ensures.place);
+      contents = rw (c.in-Ok.is, c.in-Err.is) (rw c.violation_facts-f.ensures at c.say_violation.ensures.contents);
     }

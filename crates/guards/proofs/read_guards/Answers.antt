@@ -15,33 +15,33 @@ returns-then-list-i c =
     let l = c.loop-i in
     sym (l.invariant.2 ∙ guards_done c.args.list.now l.i l.table (most_frames - l.i) c.if-list-i.true)
 
-pub returns-in-Bad : goal.returns-in-Bad
-returns-in-Bad c =
+pub returns-in-Err : goal.returns-in-Err
+returns-in-Err c =
     let l = c.loop-i in
     let e = guards_turn c.args.list.now l.i l.table l.invariant.2 (omega arith) c.if-list-i.false c.read_line.ensures c.guard_line-l.ensures in
-    sym (e ∙ rw c.in-Bad.is)
+    sym (e ∙ rw c.in-Err.is)
 
 pub bounds-table-x : goal.bounds-table-x
 bounds-table-x c =
-    let b = names_variable c.read_line.result _ _ (sym c.guard_line-l.ensures ∙ c.in-Names.is) in
+    let b = names_variable c.read_line.result _ _ (sym c.guard_line-l.ensures ∙ c.in-Ok.is) in
     omega (arith, c.loop-i.invariant.1)
 
 pub returns-then-table-x-ne-UNPROTECTED : goal.returns-then-table-x-ne-UNPROTECTED
 returns-then-table-x-ne-UNPROTECTED c =
     let l = c.loop-i in
     let e = guards_turn c.args.list.now l.i l.table l.invariant.2 (omega arith) c.if-list-i.false c.read_line.ensures c.guard_line-l.ensures in
-    sym (e ∙ rw (c.in-Names.is, ne_eqb _ _ c.if-table-x-ne-UNPROTECTED.true))
+    sym (e ∙ rw (c.in-Ok.is, ne_eqb _ _ c.if-table-x-ne-UNPROTECTED.true))
 
-pub bounds-table-x-in-Names : goal.bounds-table-x-in-Names
-bounds-table-x-in-Names c =
-    let b = names_variable c.read_line.result _ _ (sym c.guard_line-l.ensures ∙ c.in-Names.is) in
+pub bounds-table-x-in-Ok : goal.bounds-table-x-in-Ok
+bounds-table-x-in-Ok c =
+    let b = names_variable c.read_line.result _ _ (sym c.guard_line-l.ensures ∙ c.in-Ok.is) in
     omega (arith, c.loop-i.invariant.1)
 
 pub loop-i-preserved : goal.loop-i-preserved
 loop-i-preserved c =
     let l = c.loop-i in
     let e = guards_turn c.args.list.now l.i l.table l.invariant.2 (omega arith) c.if-list-i.false c.read_line.ensures c.guard_line-l.ensures in
-    (omega arith, simp length-set l.invariant.1, e ∙ rw (c.in-Names.is, eq-eqb _ _ c.if-table-x-ne-UNPROTECTED.false))
+    (omega arith, simp length-set l.invariant.1, e ∙ rw (c.in-Ok.is, eq-eqb _ _ c.if-table-x-ne-UNPROTECTED.false))
 
 pub returns-then-list-le-MOST_BYTES : goal.returns-then-list-le-MOST_BYTES
 returns-then-list-le-MOST_BYTES c =

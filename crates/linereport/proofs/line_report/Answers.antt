@@ -9,9 +9,9 @@ returns-in-Read c =
       contents = rw (sym c.read_fields-q.ensures ∙ c.in-Read.is) c.put_kept.ensures.contents;
     }
 
-pub returns-in-Refused : goal.returns-in-Refused
-returns-in-Refused c =
+pub returns-in-Err : goal.returns-in-Err
+returns-in-Err c =
     record {
-      place = rw (sym c.read_fields-q.ensures ∙ c.in-Refused.is) c.explain_refusal.ensures.place;
-      contents = rw (sym c.read_fields-q.ensures ∙ c.in-Refused.is) c.explain_refusal.ensures.contents;
+      place = rw (sym c.read_fields-q.ensures ∙ c.in-Err.is) c.explain_refusal.ensures.place;
+      contents = rw (sym c.read_fields-q.ensures ∙ c.in-Err.is) c.explain_refusal.ensures.contents;
     }

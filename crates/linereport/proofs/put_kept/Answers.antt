@@ -9,9 +9,9 @@ returns-in-Reply c =
       contents = rw (sym c.reply_of-k.ensures ∙ c.in-Reply.is, ← c.source_of-s.ensures) c.explain.ensures.contents;
     }
 
-pub returns-in-Other : goal.returns-in-Other
-returns-in-Other c =
+pub returns-in-Err : goal.returns-in-Err
+returns-in-Err c =
     record {
-      place = rw (sym c.reply_of-k.ensures ∙ c.in-Other.is) c.put_other.ensures.place;
-      contents = rw (sym c.reply_of-k.ensures ∙ c.in-Other.is) c.put_other.ensures.contents;
+      place = rw (sym c.reply_of-k.ensures ∙ c.in-Err.is) c.put_other.ensures.place;
+      contents = rw (sym c.reply_of-k.ensures ∙ c.in-Err.is) c.put_other.ensures.contents;
     }

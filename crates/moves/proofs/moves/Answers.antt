@@ -17,7 +17,7 @@ returns-in_default c =
 pub returns : goal.returns
 unfolding reply_under moves_out_under moves_out
 returns c =
-    let q = sym (ap (λ (x : GuardsRead). x.reply) c.guards_under-g.ensures) ∙ c.in-Lines.is in
+    let q = sym (ap (λ (x : GuardsRead). x.reply) c.guards_under-g.ensures) ∙ c.in-Ok.is in
     record {
       reply = rw (q, ← c.guards_under-g.ensures) c.under_guards.ensures.reply;
       contents = rw (q, ← c.guards_under-g.ensures) c.under_guards.ensures.contents;

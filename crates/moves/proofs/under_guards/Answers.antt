@@ -1,6 +1,6 @@
+use Rattle.std.specs.Prelude.{Ok}
 use mathlib.Core.Path.{sym, ◌∙◌}
 use Rattle.frame.specs.declared.Refusal.TheVariants as refusal
-use Rattle.reply.specs.declared.Verdict.TheVariants.{Reducible}
 use Rattle.pass.specs.Pass.{full_sets}
 use Rattle.pass.proofs.Judgement.{judgement_sound}
 use Rattle.order.proofs.Laws.{accepted}
@@ -20,20 +20,20 @@ pub write_moves-w-requires : goal.write_moves-w-requires
 write_moves-w-requires c =
     let g = c.args.guards.now in
     let ws = c.args.words.now in
-    let q = sym c.check-q.ensures ∙ c.in-Written.is in
+    let q = sym c.check-q.ensures ∙ c.in-Ok.is in
     let a = accepted refusal.MovesBuffer g ws _ _ q in
     record {
-      fact_1 = judgement_sound g full_sets ws Reducible a.reducibly;
+      fact_1 = judgement_sound g full_sets ws (Ok tt) a.reducibly;
       fact_2 = a.fits;
       fact_3 = walk_short g ws a.reducibly a.closed;
     }
 
-pub returns-in-Sound : goal.returns-in-Sound
+pub returns-in-Ok : goal.returns-in-Ok
 unfolding moves_out
-returns-in-Sound c =
+returns-in-Ok c =
     let g = c.args.guards.now in
     let ws = c.args.words.now in
-    let q = sym c.check-q.ensures ∙ c.in-Written.is in
+    let q = sym c.check-q.ensures ∙ c.in-Ok.is in
     let a = accepted refusal.MovesBuffer g ws _ _ q in
     record {
       reply = c.check-q.ensures;

@@ -1,6 +1,6 @@
+use Rattle.std.specs.Prelude.{Ok}
 use mathlib.Core.Path.{sym, ◌∙◌}
 use native.Mathlib.Omega.{arith}
-use Rattle.reply.specs.declared.Verdict.TheVariants.{Reducible}
 use Rattle.pass.specs.Pass.{full_sets, judgement}
 use Rattle.pass.proofs.Judgement.{judgement_fits}
 use Rattle.order.proofs.Laws.{says_reducible, says_irreducible, not_reducible, still_open, no_room, is_written}
@@ -15,13 +15,13 @@ returns-then-is_irreducible c =
     let t = says_irreducible _ (judgement g full_sets ws).reply _ j c.is_irreducible.ensures c.if-is_irreducible.true in
     c.refusal.ensures ∙ rw j (sym (not_reducible c.args.short g ws c.args.room t))
 
-pub returns-in-At : goal.returns-in-At
+pub returns-in-Some : goal.returns-in-Some
 unfolding full_sets
-returns-in-At c =
+returns-in-Some c =
     let g = c.args.guards.now in
     let ws = c.args.words.now in
     let r = says_reducible _ (judgement g full_sets ws).reply _ c.judge_recording-p.ensures.reply c.is_irreducible.ensures c.if-is_irreducible.false in
-    sym (still_open c.args.short g ws c.args.room r _ (sym c.judge_recording-p.ensures.unclosed ∙ c.in-At.is))
+    sym (still_open c.args.short g ws c.args.room r _ (sym c.judge_recording-p.ensures.unclosed ∙ c.in-Some.is))
 
 pub overflow_cast-n : goal.overflow_cast-n
 unfolding full_sets
@@ -29,7 +29,7 @@ overflow_cast-n c =
     let g = c.args.guards.now in
     let ws = c.args.words.now in
     let r = says_reducible _ (judgement g full_sets ws).reply _ c.judge_recording-p.ensures.reply c.is_irreducible.ensures c.if-is_irreducible.false in
-    omega (arith, judgement_fits g full_sets ws Reducible r)
+    omega (arith, judgement_fits g full_sets ws (Ok tt) r)
 
 pub returns-then-room-words : goal.returns-then-room-words
 unfolding full_sets

@@ -16,7 +16,7 @@ returns-in_default c =
 pub returns : goal.returns
 unfolding reply_under out_under order_out
 returns c =
-    let q = sym (ap (λ (x : GuardsRead). x.reply) c.guards_under-g.ensures) ∙ c.in-Lines.is in
+    let q = sym (ap (λ (x : GuardsRead). x.reply) c.guards_under-g.ensures) ∙ c.in-Ok.is in
     record {
       reply = rw (q, ← c.guards_under-g.ensures) c.under_guards.ensures.reply;
       contents = rw (q, ← c.guards_under-g.ensures) c.under_guards.ensures.contents;

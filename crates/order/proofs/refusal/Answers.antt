@@ -1,7 +1,7 @@
 use Rattle.order.proofs.refusal.Goals as goal
 
-pub returns-in-Refused : goal.returns-in-Refused
-returns-in-Refused c = rw c.in-Refused.is
+pub returns-in-Err : goal.returns-in-Err
+returns-in-Err c = rw c.in-Err.is
 
-pub returns-in-Violated : goal.returns-in-Violated
-returns-in-Violated c = rw (c.in-Judged.is, c.in-Violated.is)
+pub returns-in-Err : goal.returns-in-Err
+returns-in-Err c = rw (c.in-Ok.is, c.in-Err.is)

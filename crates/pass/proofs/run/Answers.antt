@@ -19,17 +19,17 @@ returns-in_default c =
 
 pub judge_frame-q-requires : goal.judge_frame-q-requires
 judge_frame-q-requires c =
-    let e = sym c.decode-d.ensures ∙ c.in-Frame.is in
+    let e = sym c.decode-d.ensures ∙ c.in-Ok.is in
     record {
       fact_1 = decoded_in_range _ _ e;
       fact_2 = omega (arith, c.loop-i-test.true, c.requires);
       fact_3 = c.loop-i.invariant.follows;
     }
 
-pub returns-in-Refused : goal.returns-in-Refused
-returns-in-Refused c =
-    let e = sym c.decode-d.ensures ∙ c.in-Frame.is in
-    let both = turn_refused c.loop-i.invariant c.requires c.loop-i-test.true e (rw c.in-Refused.is at c.judge_frame-q.ensures.rules) c.refused-in-Refused.ensures in
+pub returns-in-Err : goal.returns-in-Err
+returns-in-Err c =
+    let e = sym c.decode-d.ensures ∙ c.in-Ok.is in
+    let both = turn_refused c.loop-i.invariant c.requires c.loop-i-test.true e (rw c.in-Err.is at c.judge_frame-q.ensures.rules) c.refused-in-Err.ensures in
     record {
       reply = both.0;
       unclosed = both.1.0;
@@ -51,7 +51,7 @@ check_from-c-requires c =
 
 pub returns-in-Wrong : goal.returns-in-Wrong
 returns-in-Wrong c =
-    let e = sym c.decode-d.ensures ∙ c.in-Frame.is in
+    let e = sym c.decode-d.ensures ∙ c.in-Ok.is in
     let both = turn_wrong c.loop-i.invariant c.requires c.loop-i-test.true e (rw c.in-Wrong.is at c.judge_frame-q.ensures.rules) (rw (c.after_check.ensures, ap (λ (x : Checked). x.reply) c.check_from-c.ensures)) in
     record {
       reply = both.0;
@@ -64,8 +64,8 @@ overflow_add-i-in-loop-i c = omega (arith, c.loop-i-test.true, c.requires)
 
 pub loop-i-preserved : goal.loop-i-preserved
 loop-i-preserved c =
-    let e = sym c.decode-d.ensures ∙ c.in-Frame.is in
-    let q = c.in-Next.is in
+    let e = sym c.decode-d.ensures ∙ c.in-Ok.is in
+    let q = c.in-Ok.is in
     turn_next c.loop-i.invariant c.requires c.loop-i-test.true e (rw q at c.judge_frame-q.ensures.rules) (rw q at c.judge_frame-q.ensures.locks)
 
 pub returns : goal.returns

@@ -21,18 +21,18 @@ pub write_unit-n-requires : goal.write_unit-n-requires
 write_unit-n-requires c =
     record {
       fact_1 = c.requires.fact_1;
-      fact_2 = lent_fits (unit_of c.args.words.now c.args.words.now c.in-At.b c.args.t) c.args.out.now c.args.at (rw c.in-At.is at c.requires.fact_2);
+      fact_2 = lent_fits (unit_of c.args.words.now c.args.words.now c.in-Some.b c.args.t) c.args.out.now c.args.at (rw c.in-Some.is at c.requires.fact_2);
     }
 
 pub overflow_add-result : goal.overflow_add-result
 overflow_add-result c =
-    let p = rw c.in-At.is at c.requires.fact_2 in
+    let p = rw c.in-Some.is at c.requires.fact_2 in
     omega (arith, p, c.write_unit-n.ensures.count, c.well_formed)
 
 pub returns : goal.returns
 returns c =
-    let u = unit_of c.args.words.now c.args.words.now c.in-At.b c.args.t in
+    let u = unit_of c.args.words.now c.args.words.now c.in-Some.b c.args.t in
     record {
-      behind = rw c.in-At.is (ap (λ m. c.args.at + m) c.write_unit-n.ensures.count);
-      contents = rw c.in-At.is (lent_part u c.args.out.now c.args.at (length u) c.write_unit-n.ensures.contents);
+      behind = rw c.in-Some.is (ap (λ m. c.args.at + m) c.write_unit-n.ensures.count);
+      contents = rw c.in-Some.is (lent_part u c.args.out.now c.args.at (length u) c.write_unit-n.ensures.contents);
     }

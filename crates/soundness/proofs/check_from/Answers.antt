@@ -18,7 +18,7 @@ returns-in_default c =
     rw (c.refusal_of.ensures, c.in_default.is) (sym (l.invariant.1 ∙ check_bad ws l.i s h _ (sym c.decode-d.ensures ∙ c.in_default.is)))
 
 pub step-o-requires : goal.step-o-requires
-step-o-requires c = decoded_in_range _ _ (sym c.decode-d.ensures ∙ c.in-Frame.is)
+step-o-requires c = decoded_in_range _ _ (sym c.decode-d.ensures ∙ c.in-Ok.is)
 
 pub returns-in_default-o : goal.returns-in_default-o
 returns-in_default-o c =
@@ -26,7 +26,7 @@ returns-in_default-o c =
     let ws = c.args.words.now in
     let s = state_of l.owners l.counts l.depths in
     let h = c.loop-i-test.true in
-    let f = sym c.decode-d.ensures ∙ c.in-Frame.is in
+    let f = sym c.decode-d.ensures ∙ c.in-Ok.is in
     let r = c.step-o in
     let n = state_of r.new.owners r.new.counts r.new.depths in
     rw (c.outcome_refusal.ensures, c.in_default-o.is) (sym (l.invariant.1 ∙ check_fail ws l.i s h _ n f _ (r.ensures ∙ rw c.in_default-o.is)))
@@ -37,10 +37,10 @@ loop-i-preserved c =
     let ws = c.args.words.now in
     let s = state_of l.owners l.counts l.depths in
     let h = c.loop-i-test.true in
-    let f = sym c.decode-d.ensures ∙ c.in-Frame.is in
+    let f = sym c.decode-d.ensures ∙ c.in-Ok.is in
     let r = c.step-o in
     let n = state_of r.new.owners r.new.counts r.new.depths in
-    (omega arith, l.invariant.1 ∙ check_next ws l.i s h _ n f (rw c.in-Next.is at r.ensures))
+    (omega arith, l.invariant.1 ∙ check_next ws l.i s h _ n f (rw c.in-Ok.is at r.ensures))
 
 pub returns : goal.returns
 returns c =

@@ -32,7 +32,7 @@ unfolding word_at
 loop-i-preserved c =
     let l = c.loop-i in
     let a = c.args in
-    let e = sym c.read_line-l.ensures ∙ c.in-Word.is in (
+    let e = sym c.read_line-l.ensures ∙ c.in-Some.is in (
       omega arith,
       l.invariant.1 ∙ scan_step a.s.now l.i (most_frames - l.i) (most_frames - (l.i + 1)) (omega arith) c.if-s-i.false ∙ rw e,
       rw l.invariant.2 (words_turn a.s.now a.words.now l.i _ (omega arith) (rw e)),

@@ -16,7 +16,7 @@ returns-in_default c =
 
 pub returns-then-words-n : goal.returns-then-words-n
 returns-then-words-n c =
-    let e = sym c.scan-q.ensures ∙ c.in-Lines.is in
+    let e = sym c.scan-q.ensures ∙ c.in-Ok.is in
     record {
       reply = simp (e, lt-ltb _ _ c.if-words-n.true);
       contents = simp (e, lt-ltb _ _ c.if-words-n.true);
@@ -24,15 +24,15 @@ returns-then-words-n c =
 
 pub write_words-requires : goal.write_words-requires
 write_words-requires c =
-    let e = sym c.scan-q.ensures ∙ c.in-Lines.is in
+    let e = sym c.scan-q.ensures ∙ c.in-Ok.is in
     record {
       fact_1 = search rules;
-      fact_2 = (c.if-words-n.false, omega (arith, scan_length c.args.text.now c.in-Lines.n e));
+      fact_2 = (c.if-words-n.false, omega (arith, scan_length c.args.text.now c.in-Ok.n e));
     }
 
 pub returns : goal.returns
 returns c =
-    let e = sym c.scan-q.ensures ∙ c.in-Lines.is in
+    let e = sym c.scan-q.ensures ∙ c.in-Ok.is in
     let t = le-ltb _ _ c.if-words-n.false in
     record {
       reply = simp (e, t);

@@ -21,7 +21,7 @@ returns-in_default c =
 pub loop-i-preserved : goal.loop-i-preserved
 loop-i-preserved c =
     let l = c.loop-i in
-    (omega arith, l.invariant.1 ∙ scan_step c.args.s.now l.i (most_frames - l.i) (most_frames - (l.i + 1)) (omega arith) c.if-s-i.false ∙ rw (sym c.read_line-l.ensures ∙ c.in-Word.is))
+    (omega arith, l.invariant.1 ∙ scan_step c.args.s.now l.i (most_frames - l.i) (most_frames - (l.i + 1)) (omega arith) c.if-s-i.false ∙ rw (sym c.read_line-l.ensures ∙ c.in-Some.is))
 
 pub returns : goal.returns
 returns c =

@@ -9,4 +9,4 @@ returns-in_default c = rw (sym c.read_line-l.ensures ∙ c.in_default.is)
 
 pub returns : goal.returns
 unfolding word_at
-returns c = rw (sym c.read_line-l.ensures ∙ c.in-Word.is)
+returns c = rw (sym c.read_line-l.ensures ∙ c.in-Some.is)

@@ -1,8 +1,8 @@
+use Rattle.std.specs.Prelude.{Ok}
 use mathlib.Core.Path.{sym, ◌∙◌}
 use lib.ListN.{length}
 use borrow.Author.Tests.{lt-ltb, le-ltb}
 use Rattle.guards.specs.declared.Judgement.TheVariants.{Declared}
-use Rattle.reply.specs.declared.Verdict.TheVariants.{Reducible}
 use Rattle.verdict.proofs.Laws.{verdict_fits}
 use Rattle.trace.proofs.Laws.{frames_whole}
 use Rattle.trace.proofs.trace_declared.Goals as goal
@@ -20,7 +20,7 @@ returns c =
     let p = c.args in
     let t = le-ltb _ _ c.if-line-lt-LINE.false in
     let n = length p.words.now in
-    let w = frames_whole d.result n (λ e. verdict_fits Declared p.list.now p.words.now Reducible (sym d.ensures ∙ e)) in
+    let w = frames_whole d.result n (λ e. verdict_fits Declared p.list.now p.words.now (Ok tt) (sym d.ensures ∙ e)) in
     record {
       kind = rw (t, ← d.ensures) c.answer.ensures.kind;
       contents = rw (t, ← d.ensures, ← w) c.answer.ensures.contents;

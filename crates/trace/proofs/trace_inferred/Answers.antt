@@ -1,7 +1,7 @@
+use Rattle.std.specs.Prelude.{Ok}
 use mathlib.Core.Path.{sym, ◌∙◌}
 use lib.ListN.{length}
 use borrow.Author.Tests.{lt-ltb, le-ltb}
-use Rattle.reply.specs.declared.Verdict.TheVariants.{Reducible}
 use Rattle.verdict.proofs.Laws.{inferred_fits}
 use Rattle.trace.proofs.Laws.{frames_whole}
 use Rattle.trace.proofs.trace_inferred.Goals as goal
@@ -21,7 +21,7 @@ returns c =
     let p = c.args in
     let t = le-ltb _ _ c.if-room-lt-LINE.false in
     let n = length p.words.now in
-    let w = frames_whole d.result n (λ e. inferred_fits p.words.now (length p.sets.now) Reducible (sym d.ensures.reply ∙ e)) in
+    let w = frames_whole d.result n (λ e. inferred_fits p.words.now (length p.sets.now) (Ok tt) (sym d.ensures.reply ∙ e)) in
     record {
       kind = rw (t, ← d.ensures.reply) c.answer.ensures.kind;
       sets = rw t d.ensures.contents;

@@ -7,5 +7,5 @@ returns-in-Equal c = rw (sym c.equal-q.ensures ∙ c.in-Equal.is)
 pub returns-in-Different : goal.returns-in-Different
 returns-in-Different c = rw (sym c.equal-q.ensures ∙ c.in-Different.is)
 
-pub returns-in-Refused : goal.returns-in-Refused
-returns-in-Refused c = rw (sym c.equal-q.ensures ∙ c.in-Refused.is) c.pack_side.ensures
+pub returns-in-Err : goal.returns-in-Err
+returns-in-Err c = rw (sym c.equal-q.ensures ∙ c.in-Err.is) c.pack_side.ensures

@@ -17,9 +17,9 @@ returns-in-Read c =
       locks = ap (λ x. left locks_of x a.locks.now) e;
     }
 
-pub returns-in-Refused : goal.returns-in-Refused
-returns-in-Refused c =
-    let e = sym c.in-Refused.is ∙ c.read_fields-q.ensures in
+pub returns-in-Err : goal.returns-in-Err
+returns-in-Err c =
+    let e = sym c.in-Err.is ∙ c.read_fields-q.ensures in
     let a = c.args in
     record {
       reply = c.pack.ensures ∙ ap fields_answer e;

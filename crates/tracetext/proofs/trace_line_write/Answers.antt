@@ -13,23 +13,23 @@ returns-then-line-lt-LINE c =
       contents = rw (lt-ltb _ _ c.if-line-lt-LINE.true) (refl);
     }
 
-pub returns-in-Written : goal.returns-in-Written
-returns-in-Written c =
+pub returns-in-Ok : goal.returns-in-Ok
+returns-in-Ok c =
     let a = c.args in
     let f = given a.kind a.frame a.thread a.begin a.commit a.locks in
     let e = rw (c.field_mark.ensures, c.field_mark-2.ensures) at c.write_fields-w.ensures in
-    let both = line_written f a.line.now (search rules) e c.in-Written.is c.put_line.ensures in
+    let both = line_written f a.line.now (search rules) e c.in-Ok.is c.put_line.ensures in
     record {
       reply = both.0;
       contents = both.1;
     }
 
-pub returns-in-Refused : goal.returns-in-Refused
-returns-in-Refused c =
+pub returns-in-Err : goal.returns-in-Err
+returns-in-Err c =
     let a = c.args in
     let f = given a.kind a.frame a.thread a.begin a.commit a.locks in
     let e = rw (c.field_mark.ensures, c.field_mark-2.ensures) at c.write_fields-w.ensures in
-    let both = line_refused f a.line.now (search rules) e c.in-Refused.is c.pack-in-Refused.ensures in
+    let both = line_refused f a.line.now (search rules) e c.in-Err.is c.pack-in-Err.ensures in
     record {
       reply = both.0;
       contents = both.1;

@@ -5,18 +5,18 @@ use borrow.Author.Rules.{rules}
 use Rattle.unitcommits.proofs.under_guards.Goals as goal
 
 pub overflow_cast-result : goal.overflow_cast-result
-overflow_cast-result c = let h = sound_fits c.args.words.now (sym c.check-q.ensures ∙ c.in-Sound.is) in search (rules, h)
+overflow_cast-result c = let h = sound_fits c.args.words.now (sym c.check-q.ensures ∙ c.in-Ok.is) in search (rules, h)
 
-pub returns-in-Refused : goal.returns-in-Refused
-returns-in-Refused c =
-    let e = sym c.check-q.ensures ∙ c.in-Refused.is in record {
+pub returns-in-Err : goal.returns-in-Err
+returns-in-Err c =
+    let e = sym c.check-q.ensures ∙ c.in-Err.is in record {
       reply = rw e;
       contents = rw e;
     }
 
-pub returns-in-Sound : goal.returns-in-Sound
-returns-in-Sound c =
-    let e = sym c.check-q.ensures ∙ c.in-Sound.is in record {
+pub returns-in-Ok : goal.returns-in-Ok
+returns-in-Ok c =
+    let e = sym c.check-q.ensures ∙ c.in-Ok.is in record {
       reply = rw e;
       contents = rw e c.write_commits.ensures;
     }

@@ -21,7 +21,7 @@ pub returns-then-sets-lt-VARIABLES : goal.returns-then-sets-lt-VARIABLES
 unfolding inferred_guards full_sets
 returns-then-sets-lt-VARIABLES c =
     let a = c.args in
-    let e = sym c.judge_recording-p.ensures.reply ∙ c.in-Judged.is in
+    let e = sym c.judge_recording-p.ensures.reply ∙ c.in-Ok.is in
     record {
       reply = sym (short_reply a.words.now a.sets.now _ e c.if-sets-lt-VARIABLES.true);
       contents = sym (short_sets a.words.now a.sets.now _ e c.if-sets-lt-VARIABLES.true);
@@ -32,7 +32,7 @@ unfolding inferred_guards full_sets
 copy_sets-requires c =
     let ws = c.args.words.now in
     let j = c.judge_recording-p in
-    let s = j.ensures.contents ∙ judged_left inferred_guards full_sets ws _ (sym j.ensures.reply ∙ c.in-Judged.is) in
+    let s = j.ensures.contents ∙ judged_left inferred_guards full_sets ws _ (sym j.ensures.reply ∙ c.in-Ok.is) in
     record {
       fact_1 = rw s (judgement_length inferred_guards full_sets ws);
       fact_2 = c.if-sets-lt-VARIABLES.false;
@@ -43,7 +43,7 @@ unfolding inferred_guards full_sets
 returns c =
     let a = c.args in
     let j = c.judge_recording-p in
-    let e = sym j.ensures.reply ∙ c.in-Judged.is in
+    let e = sym j.ensures.reply ∙ c.in-Ok.is in
     let s = j.ensures.contents ∙ judged_left inferred_guards full_sets a.words.now _ e in
     record {
       reply = sym (judged_reply a.words.now a.sets.now _ e c.if-sets-lt-VARIABLES.false);

@@ -14,5 +14,5 @@ returns-in_default c =
 pub returns : goal.returns
 unfolding verdict_under full_sets
 returns c =
-    let e = sym (ap (λ (x : GuardsRead). x.reply) c.guards_under-g.ensures) ∙ c.in-Lines.is in
+    let e = sym (ap (λ (x : GuardsRead). x.reply) c.guards_under-g.ensures) ∙ c.in-Ok.is in
     rw (e, ← c.guards_under-g.ensures) c.judge_recording-p.ensures.reply

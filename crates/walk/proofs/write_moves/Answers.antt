@@ -28,7 +28,7 @@ pub visit-start-requires : goal.visit-start-requires
 visit-start-requires c =
     let k = sound_fits c.args.words.now c.requires.fact_1 in
     record {
-      fact_1 = decoded_in_range _ _ (sym c.decode-d.ensures ∙ c.in-Frame.is);
+      fact_1 = decoded_in_range _ _ (sym c.decode-d.ensures ∙ c.in-Ok.is);
       fact_2 = counts_fit c.loop-p.invariant.stands c.loop-p-test.true k;
       fact_3 = depths_fit c.loop-p.invariant.stands c.loop-p-test.true k;
     }
@@ -38,7 +38,7 @@ move_at-k-requires c =
     record {
       fact_1 = c.requires.fact_1;
       fact_2 = omega (arith, c.requires.fact_2, c.loop-p.invariant.long);
-      fact_3 = place_room c.loop-p.invariant c.loop-p-test.true (sym c.decode-d.ensures ∙ c.in-Frame.is) c.visit-start.ensures.start c.requires.fact_3;
+      fact_3 = place_room c.loop-p.invariant c.loop-p-test.true (sym c.decode-d.ensures ∙ c.in-Ok.is) c.visit-start.ensures.start c.requires.fact_3;
     }
 
 pub overflow_add-p : goal.overflow_add-p
@@ -49,7 +49,7 @@ loop-p-smaller c = omega (arith, c.loop-p-test.true)
 
 pub loop-p-preserved : goal.loop-p-preserved
 loop-p-preserved c =
-    moves_next c.loop-p.invariant c.loop-p-test.true (sym c.decode-d.ensures ∙ c.in-Frame.is) c.visit-start.ensures.start c.visit-start.ensures.tables c.move_at-k.ensures.behind c.move_at-k.ensures.contents
+    moves_next c.loop-p.invariant c.loop-p-test.true (sym c.decode-d.ensures ∙ c.in-Ok.is) c.visit-start.ensures.start c.visit-start.ensures.tables c.move_at-k.ensures.behind c.move_at-k.ensures.contents
 
 pub shape_of-moves : goal.shape_of-moves
 shape_of-moves c = c.loop-p.invariant.long

@@ -29,7 +29,7 @@ pub visit-start-requires : goal.visit-start-requires
 visit-start-requires c =
     let k = sound_fits c.args.words.now c.requires.fact_1 in
     record {
-      fact_1 = decoded_in_range _ _ (sym c.decode-d.ensures ∙ c.in-Frame.is);
+      fact_1 = decoded_in_range _ _ (sym c.decode-d.ensures ∙ c.in-Ok.is);
       fact_2 = counts_fit c.loop-i.invariant.stands c.loop-i-test.true k;
       fact_3 = depths_fit c.loop-i.invariant.stands c.loop-i-test.true k;
     }
@@ -38,7 +38,7 @@ pub write_at-at-requires : goal.write_at-at-requires
 write_at-at-requires c =
     record {
       fact_1 = c.requires.fact_1;
-      fact_2 = unit_room c.loop-i.invariant c.loop-i-test.true (sym c.decode-d.ensures ∙ c.in-Frame.is) c.visit-start.ensures.start c.requires.fact_2;
+      fact_2 = unit_room c.loop-i.invariant c.loop-i-test.true (sym c.decode-d.ensures ∙ c.in-Ok.is) c.visit-start.ensures.start c.requires.fact_2;
     }
 
 pub overflow_add-i : goal.overflow_add-i
@@ -50,7 +50,7 @@ loop-i-smaller c = omega (arith, c.loop-i-test.true)
 pub loop-i-preserved : goal.loop-i-preserved
 loop-i-preserved c =
     let n = c.write_at-at.ensures.behind in
-    order_next c.loop-i.invariant c.loop-i-test.true (sym c.decode-d.ensures ∙ c.in-Frame.is) c.visit-start.ensures.start c.requires.fact_2 c.visit-start.ensures.tables n (rw (← n) at c.write_at-at.ensures.contents)
+    order_next c.loop-i.invariant c.loop-i-test.true (sym c.decode-d.ensures ∙ c.in-Ok.is) c.visit-start.ensures.start c.requires.fact_2 c.visit-start.ensures.tables n (rw (← n) at c.write_at-at.ensures.contents)
 
 pub shape_of-out : goal.shape_of-out
 shape_of-out c = c.loop-i.invariant.written.long

@@ -5,11 +5,11 @@ use Rattle.writer.proofs.Reply.{refused_after, room_for, written_after, check_re
 use Rattle.writer.proofs.write_recording.Goals as goal
 
 pub room-r-requires : goal.room-r-requires
-room-r-requires c = sound_fits c.args.words.now (sym c.check-q.ensures ∙ c.in-Sound.is)
+room-r-requires c = sound_fits c.args.words.now (sym c.check-q.ensures ∙ c.in-Ok.is)
 
 pub returns-in_default : goal.returns-in_default
 returns-in_default c =
-    let both = refused_after c.args.words.now c.args.text.now c.args.place (sym c.check-q.ensures ∙ c.in-Sound.is) c.room-r.ensures c.in_default.is in
+    let both = refused_after c.args.words.now c.args.text.now c.args.place (sym c.check-q.ensures ∙ c.in-Ok.is) c.room-r.ensures c.in_default.is in
     record {
       reply = both.0;
       contents = both.1;
@@ -17,19 +17,19 @@ returns-in_default c =
 
 pub write_lines-requires : goal.write_lines-requires
 write_lines-requires c =
-    room_for c.args.words.now c.args.text.now c.args.place (sym c.check-q.ensures ∙ c.in-Sound.is) c.room-r.ensures c.in-Written.is
+    room_for c.args.words.now c.args.text.now c.args.place (sym c.check-q.ensures ∙ c.in-Ok.is) c.room-r.ensures c.in-Ok.is
 
-pub returns-in-Refused : goal.returns-in-Refused
-returns-in-Refused c =
-    let both = check_refused c.args.words.now c.args.text.now c.args.place c.in-Refused.x (sym c.check-q.ensures ∙ c.in-Refused.is) in
+pub returns-in-Err : goal.returns-in-Err
+returns-in-Err c =
+    let both = check_refused c.args.words.now c.args.text.now c.args.place c.in-Err.x (sym c.check-q.ensures ∙ c.in-Err.is) in
     record {
       reply = both.0;
       contents = both.1;
     }
 
-pub returns-in-Written : goal.returns-in-Written
-returns-in-Written c =
-    let both = written_after c.args.words.now c.args.text.now c.args.place (sym c.check-q.ensures ∙ c.in-Sound.is) c.room-r.ensures c.in-Written.is c.write_lines.ensures in
+pub returns-in-Ok : goal.returns-in-Ok
+returns-in-Ok c =
+    let both = written_after c.args.words.now c.args.text.now c.args.place (sym c.check-q.ensures ∙ c.in-Ok.is) c.room-r.ensures c.in-Ok.is c.write_lines.ensures in
     record {
       reply = both.0;
       contents = both.1;
