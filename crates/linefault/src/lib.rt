@@ -89,7 +89,7 @@ pub fn explain_refused(
 )
     ensures { Appended out.old out.new (refused_text source text.now words.now refused) }
 {
-    if matches!(refused.reason, Refusal::Line) && 9 * (refused.place as usize) < text.len() {
+    if refused.reason == Refusal::Line && 9 * (refused.place as usize) < text.len() {
         say_line(out, source, text, refused.place);
     } else {
         refusaltext::explain_refusal(out, source, words, refused);
