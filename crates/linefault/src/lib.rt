@@ -13,7 +13,7 @@ use output::Text;
 use phrase::Source;
 
 // What it is, and what to do.
-fn sentence_of(fault: Fault) -> &'static [u8]
+fn fault_sentence(fault: Fault) -> &'static [u8]
     ensures { result.now ≡ bytes (fault_sentence fault) }
 {
     match fault {
@@ -76,7 +76,7 @@ fn say_line(out: &mut Text<'_>, source: Source, text: &[u8], place: u32)
     let line = line_from(text, place);
     let c = fault::leading_digits(line);
     put_column(out, line, c);
-    out.put_text(sentence_of(fault::fault_of(line, place, c)));
+    out.put_text(fault_sentence(fault::fault_of(line, place, c)));
 }
 
 // A refusal in words, with what is at hand of what is refused: its text, and the words of the recording.

@@ -11,7 +11,7 @@ use output::Text;
 use phrase::Source;
 
 // The sentence of a refusal, and whether its frame is known.
-fn sentence_of(reason: Refusal, known: bool) -> &'static [u8]
+fn refusal_sentence(reason: Refusal, known: bool) -> &'static [u8]
     ensures { result.now ≡ bytes (refusal_sentence reason known) }
 {
     match (reason, known) {
@@ -74,6 +74,6 @@ pub fn explain_refusal(out: &mut Text<'_>, source: Source, words: &[u32], refuse
     ensures { Appended out.old out.new (refusal_text source words.now refused) }
 {
     let facts = facts::place_facts(source, words, refused.place);
-    let sentence = sentence_of(refused.reason, sentence::known(facts.frame));
+    let sentence = refusal_sentence(refused.reason, sentence::known(facts.frame));
     sentence::say(out, sentence, facts);
 }

@@ -12,5 +12,5 @@ unfolding bytes
 returns c =
     let said = rw c.place_facts.ensures at c.say.ensures in
     let column = rw (c.leading_digits-c.ensures, c.line_from-line.ensures) at c.put_column.ensures in
-    let fault = rw (c.sentence_of.ensures, c.fault_of.ensures, c.leading_digits-c.ensures, c.line_from-line.ensures) at c.put_text.ensures in
+    let fault = rw (c.fault_sentence.ensures, c.fault_of.ensures, c.leading_digits-c.ensures, c.line_from-line.ensures) at c.put_text.ensures in
     appended_more said (appended_more column fault)

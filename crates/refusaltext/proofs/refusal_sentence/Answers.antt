@@ -1,6 +1,6 @@
 -- The sentence of each case.
 use Rattle.output.specs.Output.{bytes}
-use Rattle.refusaltext.proofs.sentence_of.Goals as goal
+use Rattle.refusaltext.proofs.refusal_sentence.Goals as goal
 
 pub returns-in-Line-default : goal.returns-in-Line-default
 unfolding bytes

@@ -1,6 +1,6 @@
 -- The sentence of each case.
 use Rattle.output.specs.Output.{bytes}
-use Rattle.linefault.proofs.sentence_of.Goals as goal
+use Rattle.linefault.proofs.fault_sentence.Goals as goal
 
 pub returns-in-Mark : goal.returns-in-Mark
 unfolding bytes
