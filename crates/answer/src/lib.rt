@@ -24,7 +24,7 @@ pub fn answer(line: &mut [u8], r: Reply, frames: u32) -> u8
 {
     let f = line::reply_fields(r, frames);
     let l = line::fields_line(f);
-    line::put_line(line, l);
+    line::put_line(line, &l);
     f.kind
 }
 

@@ -5,7 +5,7 @@
 ghost use Rattle.std.specs.Prelude.{◌≡◌};
 ghost use Rattle.guards.specs.Guards.{guard_of, guard_line, guards_read, guards_under};
 
-use digits::{digit_values, read_line};
+use digits::read_line;
 use frame::{LOCKS, Lock, MOST, MOST_PLACE, Refusal, Refused, VARIABLES, Variable};
 use text::MOST_BYTES;
 
@@ -86,7 +86,6 @@ fn guard_line(l: Option<u32>) -> Result<GuardLine, Refusal>
 pub fn read_guards(list: &[u8]) -> GuardsRead
     ensures { result ≡ guards_read list.now }
 {
-    let t = digit_values();
     let mut table = [UNPROTECTED; VARIABLES];
     let mut i: usize = 0;
     while i < MOST {
@@ -96,7 +95,7 @@ pub fn read_guards(list: &[u8]) -> GuardsRead
                 table: table,
             };
         }
-        let l = guard_line(read_line(&t, list, 9 * i));
+        let l = guard_line(read_line(list, 9 * i));
         match l {
             Err(r) => {
                 return GuardsRead {

@@ -36,7 +36,7 @@ fn put_hexadecimal(out: &mut Text<'_>, byte: u8)
     ensures { Appended out.old out.new (digits 2 byte) }
 {
     let mut two = [0u8; 2];
-    digits::put(&mut two, 0, 2, byte as u64);
+    digits::put(&mut two, byte as u64);
     out.put_text(&two);
 }
 

@@ -91,7 +91,7 @@ pub fn trace_line_write(
     });
     match w {
         Ok(l) => {
-            line::put_line(line, l);
+            line::put_line(line, &l);
             LINE as u64
         }
         Err(x) => reply::pack(x),

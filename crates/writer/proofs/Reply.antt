@@ -3,11 +3,14 @@ use Rattle.std.specs.Prelude.{Result, Ok, Err}
 use Prim.Native.Nat.{ℕ, ◌+◌, ◌-◌, ◌*◌, ◌≤◌}
 use mathlib.Core.Path.{◌≡◌, refl, sym, ap, ◌∙◌}
 use mathlib.Core.Bool.{Bool, true, false}
-use mathlib.Core.List.{List}
+use mathlib.Core.List.{List, [], ◌++◌, append-nil}
 use native.Mathlib.Omega.{arith}
 use borrow.Author.Tests.{ltb-false}
 use lib.Dec.{ltb}
-use lib.ListN.{length}
+use lib.ListN.{length, take, drop, length-drop, drop_of_length-le}
+use lib.Seq.{drop-drop}
+use Rattle.std.proofs.lemmas.Slice.{between_to_end}
+use borrow.Rule.Slice.PartMut.{put_mid}
 use Rattle.laws.proofs.Logic.{never}
 use Rattle.frame.specs.Refusal.{refused_at}
 use Rattle.frame.specs.declared.Refused.{Refused}
@@ -27,6 +30,14 @@ has_room n size at k e = go (ltb size at) refl (ltb (size - at) (9 * n)) refl
         let z : ◌≡◌ {A = (Result ℕ Refused)} (Ok (9 * n)) (Ok k) = rw (p, q) at e in
         let w : 9 * n ≡ k = cc in
         (sym w, omega (arith, ltb-false size at p, ltb-false (size - at) (9 * n) q))
+
+-- lines at the front of the part from a place on
+pub in_place : (ws text : List ℕ) (at : ℕ) {out : List ℕ} → out ≡ lines_of ws ++ drop (9 * length ws) (take (length text - at) (drop at text))
+    → put_mid at (length text - at) text out ≡ pasted text at (9 * length ws) (lines_of ws)
+in_place ws text at {out} e =
+    let t : take (length text - at) (drop at text) ≡ drop at text = between_to_end text at (length text) (omega arith) in
+    let d : drop (length text - at) (drop at text) ≡ [] = drop_of_length-le (drop at text) (simp length-drop (omega arith)) in
+    rw (e, t, d, drop-drop, append-nil)
 
 -- a sound recording, and the reply r by the room
 module _ (ws text : List ℕ) (at : ℕ) {r : (Result ℕ Refused)} (sound : check_reply ws ≡ (Ok tt)) (e : r ≡ room_reply (length ws) (length text) at) where

@@ -5,5 +5,5 @@ use Rattle.fields.proofs.field_mark.Goals as goal
 pub returns-then-v-eq-ABSENT : goal.returns-then-v-eq-ABSENT
 returns-then-v-eq-ABSENT c = simp (eq-eqb _ _ c.if-v-eq-ABSENT.true)
 
-pub returns : goal.returns
-returns c = simp (ne_eqb _ _ c.if-v-eq-ABSENT.false)
+pub returns-else-v-eq-ABSENT : goal.returns-else-v-eq-ABSENT
+returns-else-v-eq-ABSENT c = simp (ne_eqb _ _ c.if-v-eq-ABSENT.false)

@@ -1,7 +1,9 @@
 -- The check, the room, and then the lines: each refusal leaves the text as it was.
 use mathlib.Core.Path.{sym, ◌∙◌}
+use native.Mathlib.Omega.{arith}
+use lib.ListN.{length-take, length-drop}
 use Rattle.soundness.proofs.Laws.{sound_fits}
-use Rattle.writer.proofs.Reply.{refused_after, room_for, written_after, check_refused}
+use Rattle.writer.proofs.Reply.{refused_after, room_for, in_place, written_after, check_refused}
 use Rattle.writer.proofs.write_recording.Goals as goal
 
 pub room-r-requires : goal.room-r-requires
@@ -17,7 +19,8 @@ returns-in_default c =
 
 pub write_lines-requires : goal.write_lines-requires
 write_lines-requires c =
-    room_for c.args.words.now c.args.text.now c.args.place (sym c.check-q.ensures ∙ c.in-Ok.is) c.room-r.ensures c.in-Ok.is
+    let r = room_for c.args.words.now c.args.text.now c.args.place (sym c.check-q.ensures ∙ c.in-Ok.is) c.room-r.ensures c.in-Ok.is in
+    simp (length-take, length-drop) (omega arith)
 
 pub returns-in-Err : goal.returns-in-Err
 returns-in-Err c =
@@ -29,7 +32,10 @@ returns-in-Err c =
 
 pub returns-in-Ok : goal.returns-in-Ok
 returns-in-Ok c =
-    let both = written_after c.args.words.now c.args.text.now c.args.place (sym c.check-q.ensures ∙ c.in-Ok.is) c.room-r.ensures c.in-Ok.is c.write_lines.ensures in
+    let ws = c.args.words.now in
+    let text = c.args.text.now in
+    let sound = sym c.check-q.ensures ∙ c.in-Ok.is in
+    let both = written_after ws text c.args.place sound c.room-r.ensures c.in-Ok.is (in_place ws text c.args.place c.write_lines.ensures) in
     record {
       reply = both.0;
       contents = both.1;
