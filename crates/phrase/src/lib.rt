@@ -4,7 +4,7 @@
 
 ghost use Rattle.std.specs.Prelude.{◌≡◌, ◌++◌};
 ghost use Rattle.output.specs.Output.{Appended, decimal};
-ghost use Rattle.phrase.specs.Phrase.{source_text, line_text, action_text, decoded_text, variable_in};
+ghost use Rattle.phrase.specs.Phrase.{source_named, source_text, line_text, action_text, decoded_text, variable_in};
 
 use frame::{Action, Frame, Refusal, Variable};
 use output::Text;
@@ -17,6 +17,21 @@ pub enum Source {
     Left,
     Right,
     Text,
+}
+
+// What a number names, as C programs give it.
+impl From<u32> for Source {
+    ghost from_gives = { λ number source. source ≡ source_named number };
+
+    fn from(number: u32) -> Source {
+        match number {
+            0 => Source::Recording,
+            1 => Source::GuardList,
+            2 => Source::Left,
+            3 => Source::Right,
+            _ => Source::Text,
+        }
+    }
 }
 
 #[tactic(auto, unfolding(crate::specs::Phrase::source_text, output::specs::Output::bytes))]
