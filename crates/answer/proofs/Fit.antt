@@ -15,8 +15,7 @@ use Rattle.frame.specs.declared.Refusal.TheVariants as refusal
 use Rattle.text.specs.Text.{scanned, reached, words_to}
 use Rattle.text.proofs.Laws.{length_words_to, reached_limit}
 use Rattle.guards.specs.Guards.{inferred_guards, guards_under}
-use Rattle.guards.specs.declared.Judgement.{Judgement}
-use Rattle.guards.specs.declared.Judgement.TheVariants.{Inferred}
+use Rattle.guards.specs.Judgement.{Judgement, Inferred}
 use Rattle.guards.proofs.Named.{under_place}
 use Rattle.reply.specs.Reply.{Reply}
 use Rattle.pass.specs.Pass.{full_sets, judgement}
@@ -45,7 +44,7 @@ judgement_fit codes ws = go (judgement codes full_sets ws).reply refl (judgement
   where
     go : (r : Reply) → (judgement codes full_sets ws).reply ≡ r → ReplyBelow most_frames r → Fit r (length ws)
     go (Err x) e b = refused_fit x (length ws) b
-    go (Ok (Ok tt)) e b = bare_fit 0 (length ws) (judgement_fits codes full_sets ws (Ok tt) e)
+    go (Ok (Ok _)) e b = bare_fit 0 (length ws) (judgement_fits codes full_sets ws (Ok tt) e)
     go (Ok (Err v)) e b = record {
       frame = omega (arith, b.frame);
       begin = mark_fit v.begin v.frame b.frame b.begin;

@@ -1,8 +1,7 @@
 -- The kind of a reply, the verdict on a text, which of its bytes decide, and that a line holds every place.
 -- Quotes are from docs/FORMAT.md.
 use Rattle.std.specs.Prelude.{ℕ, ◌+◌, ◌<◌, ◌≡◌, List, [], length, take, Result, Ok, Err}
-use Rattle.guards.specs.declared.Judgement.TheVariants.{Inferred}
-use Rattle.guards.specs.declared.Judgement.{Judgement}
+use Rattle.guards.specs.Judgement.{Inferred, Judgement}
 use Rattle.digits.specs.Digits.{too_wide}
 use Rattle.text.specs.Text.{scanned, words_to, most_bytes}
 use Rattle.reply.specs.Reply.{Reply}

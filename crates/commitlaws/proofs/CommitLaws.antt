@@ -16,8 +16,9 @@ use Rattle.frame.specs.Frame.{decode_word, InRange}
 use Rattle.frame.specs.declared.Frame.{Frame}
 use Rattle.frame.proofs.Laws.{decoded_in_range}
 use Rattle.guards.specs.Guards.{guards_under}
-use Rattle.guards.specs.declared.Judgement.{Judgement}
-use Rattle.soundness.specs.Soundness.{State, stepped, step_frame, start}
+use Rattle.guards.specs.Judgement.{Judgement}
+use Rattle.soundness.specs.Soundness.{stepped, step_frame, start}
+use Rattle.soundness.specs.declared.State.{State}
 use Rattle.soundness.specs.declared.Level.{Level}
 use Rattle.instrumented.specs.Rules.{Judging}
 use Rattle.exchange.specs.Exchange.{frames_of}

@@ -16,7 +16,8 @@ use Rattle.laws.proofs.Lists.{get_or_set}
 use Rattle.frame.specs.Frame.{decode_word, InRange}
 use Rattle.frame.specs.declared.Frame.{Frame}
 use Rattle.frame.proofs.Laws.{decoded_in_range}
-use Rattle.soundness.specs.Soundness.{State, stepped, step_frame, nest}
+use Rattle.soundness.specs.Soundness.{stepped, step_frame, nest}
+use Rattle.soundness.specs.declared.State.{State}
 use Rattle.soundness.specs.declared.Level.{Level}
 use Rattle.instrumented.specs.Rules.{Judging}
 use Rattle.exchange.specs.Exchange.{frames_of}

@@ -6,7 +6,7 @@ use Rattle.std.specs.Prelude.{ℕ, ◌+◌, ◌≤◌, ◌<◌, ◌≡◌, List,
 use Rattle.frame.specs.Frame.{decode_word}
 use Rattle.frame.specs.declared.Frame.{Frame}
 use Rattle.guards.specs.Guards.{guards_under}
-use Rattle.guards.specs.declared.Judgement.{Judgement}
+use Rattle.guards.specs.Judgement.{Judgement}
 use Rattle.serial.specs.Order.{commits, depth_after}
 use Rattle.rules.specs.Choice.{Reducible}
 use Rattle.commitplaces.specs.CommitPlaces.{commit_places}

@@ -6,7 +6,7 @@ ghost use Rattle.std.specs.Prelude.{◌≡◌, ◌<◌, ◌≤◌, length};
 ghost use Rattle.frame.specs.Limits.{most_frames};
 ghost use Rattle.commitplaces.specs.CommitPlaces.{noted, commits_of, commit_places};
 
-use frame::{LOCKS, MOST, THREADS, VARIABLES};
+use frame::{Frame, LOCKS, MOST, THREADS, VARIABLES};
 
 // A unit that commits at place i, by its start.
 fn note(commits: &mut [u32], m: Option<u32>, i: u32)
@@ -35,7 +35,7 @@ fn walk(words: &[u32], guards: &[u8; VARIABLES], commits: &mut [u32])
     let mut committed = [0u8; THREADS];
     let mut i: usize = 0;
     while i < words.len() {
-        let d = frame::decode(words[i]);
+        let d = Frame::try_from(words[i]);
         let Ok(f) = d else {
             return;
         };

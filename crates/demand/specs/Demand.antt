@@ -8,7 +8,7 @@ use Rattle.frame.specs.declared.Refused.{Refused}
 use Rattle.frame.specs.declared.Refusal.{Refusal}
 use Rattle.frame.specs.declared.Refusal.TheVariants as refusal
 use Rattle.guards.specs.Guards.{guards_under}
-use Rattle.guards.specs.declared.Judgement.{Judgement}
+use Rattle.guards.specs.Judgement.{Judgement}
 use Rattle.soundness.specs.Soundness.{check_reply}
 use Rattle.reply.specs.Reply.{violated}
 use Rattle.reply.specs.declared.Violation.{Violation}

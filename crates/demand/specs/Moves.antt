@@ -4,7 +4,7 @@
 use Rattle.std.specs.Prelude.{ℕ, ◌+◌, ◌<◌, ◌≤◌, ◌≡◌, List, ℤ, pos, nat_abs, ◌+ℤ◌, length, get_or, Ok}
 use Rattle.frame.specs.declared.Refusal.TheVariants as refusal
 use Rattle.guards.specs.Guards.{guards_under}
-use Rattle.guards.specs.declared.Judgement.{Judgement}
+use Rattle.guards.specs.Judgement.{Judgement}
 use Rattle.serial.specs.Order.{in_serial_order}
 use Rattle.displacement.specs.Displacement.{displacements, total}
 use Rattle.moves.specs.Moves.{moves_under, moves_out_under}

@@ -80,6 +80,7 @@ pub fn digit_list(s: &[u8], out: &mut [u8]) -> u8
     requires counted { length out.old ≤ 255 }
     ensures count { result ≡ others (take (length out.old) s.now) }
     ensures contents { out.new ≡ values_of (take (length out.old) s.now) }
+    ensures digits { result ≡ 0 → DigitValues out.new }
 {
     let mut count = 0;
     for k in 0..out.len() {

@@ -6,7 +6,7 @@ ghost use Rattle.std.specs.Prelude.{◌≡◌};
 ghost use Rattle.soundness.specs.Soundness.{check_reply};
 ghost use Rattle.equal.specs.Equal.{sound, equal_words, yes_or_no, equal_reply};
 
-use frame::{LOCKS, Refused, THREADS, VARIABLES};
+use frame::{Frame, LOCKS, Refused, THREADS, VARIABLES};
 
 #[derive(Clone, Copy)]
 pub enum Side {
@@ -38,7 +38,7 @@ fn same(left: &[u32], right: &[u32]) -> Result<bool, RefusedSide>
     let mut i: usize = 0;
     while i < left.len() {
         let w = left[i];
-        let d = frame::decode(w);
+        let d = Frame::try_from(w);
         let Ok(f) = d else {
             return Err(RefusedSide {
                 side: Side::Left,

@@ -11,7 +11,8 @@ use Rattle.frame.proofs.Laws.{decoded_in_range, encode_decode, decode_encode}
 use Rattle.frame.specs.Frame.{decode_word, encode_frame, InRange}
 use Rattle.frame.specs.declared.Frame.{Frame}
 use Rattle.soundness.proofs.Laws.{check_short, sound_fits, sound_first}
-use Rattle.soundness.specs.Soundness.{State, check_from, check_reply, start}
+use Rattle.soundness.specs.Soundness.{check_from, check_reply, start}
+use Rattle.soundness.specs.declared.State.{State}
 use Rattle.exchange.specs.Independent.{independent}
 use Rattle.exchange.specs.Exchange.{Exchange, here, later, Exchanges, done, step, independent_in, independent_words, frame_in, frame_of, frames_of}
 use Rattle.frame.specs.declared.Refusal.{Refusal}

@@ -20,7 +20,8 @@ use Rattle.frame.specs.declared.Frame.{Frame}
 use Rattle.frame.specs.declared.Lock.{Lock}
 use Rattle.frame.specs.declared.Refusal.TheVariants as refusal
 use Rattle.soundness.proofs.Laws.{check_short, sound_fits, sound_first, spared, Acquired, took, took_again, acquired, Released, freed, let_go, released}
-use Rattle.soundness.specs.Soundness.{State, state_of, owner_of, count_of, Checked, stepped, step_action, step_frame, check_from, check_reply, start}
+use Rattle.soundness.specs.Soundness.{state_of, owner_of, count_of, Checked, stepped, step_action, step_frame, check_from, check_reply, start}
+use Rattle.soundness.specs.declared.State.{State}
 use Rattle.soundness.specs.declared.Level.{Level}
 use Rattle.soundness.specs.declared.Level.TheVariants.{Outer, Inner}
 use Rattle.exchange.specs.Independent.{clash, independent}

@@ -1,14 +1,14 @@
 -- The values d of the bytes of a line before its LF, of which `count` are no digit.
-use Prim.Native.Nat.{ℕ, ◌+◌, ◌≤◌, ◌<◌}
+use Prim.Native.Nat.{ℕ, ◌+◌, ◌≤◌}
 use mathlib.Core.Path.{◌≡◌, sym, ap, ◌∙◌}
-use mathlib.Core.Bool.{true, false}
+use mathlib.Core.Bool.{true}
 use mathlib.Core.List.{List}
 use native.Mathlib.Omega.{arith}
 use borrow.Author.Tests.{eq-eqb}
 use lib.ListN.{length, get_or, take, drop}
 use Rattle.laws.proofs.Lists.{part}
-use Rattle.digits.specs.Digits.{all_digits, values_of, others, joined, DigitValues}
-use Rattle.digits.proofs.Numbers.{no_others, some_others, values_part, part_digits}
+use Rattle.digits.specs.Digits.{all_digits, values_of, others, joined}
+use Rattle.digits.proofs.Numbers.{no_others, values_part}
 use Rattle.line.specs.Line.{kind_width, place_width, thread_width, locks_width, frame_at, thread_at, begin_at, commit_at, locks_at, line_end, line_length}
 use Rattle.fields.specs.Fields.{number_in, fields_of, line_fields}
 
@@ -16,14 +16,6 @@ module _ (s d : List ℕ) {count : ℕ} (long : length s ≡ line_length) (count
   -- all are digits
   digits_all : count ≤ 0 → all_digits (take line_end s) ≡ true
   digits_all h = (no_others (take line_end s) (omega (arith, counted))).0
-
-  -- a part of them may be joined
-  pub joinable : count ≤ 0 → (at n : ℕ) → DigitValues (take n (drop at d))
-  joinable h at n = part_digits d (rw values (no_others (take line_end s) (omega (arith, counted))).1) at n
-
-  -- one is none
-  pub digits_not : 0 < count → all_digits (take line_end s) ≡ false
-  digits_not h = some_others (take line_end s) (omega (arith, counted))
 
   -- the number of some of them
   number_of : (at n : ℕ) → at + n ≤ line_end → number_in s at n ≡ joined 0 (take n (drop at d))

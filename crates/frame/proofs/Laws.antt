@@ -1,5 +1,5 @@
 -- Laws of decoding: what is decoded is in its ranges, decoding and encoding undo each other, and the parts of a word are those of its frame.
-use Rattle.std.specs.Prelude.{Ok, Err, Some, None, Result}
+use Rattle.std.specs.Prelude.{Ok, Err, Some, None, Result, List, get_or}
 use Prim.Native.Nat.{ℕ, zero, suc, ◌/◌, ◌%◌, ◌<◌, ◌≤◌}
 use mathlib.Core.Path.{◌≡◌, refl, ap, ◌∙◌, subst}
 use mathlib.Core.Bool.{Bool, true, false}
@@ -9,11 +9,12 @@ use borrow.Author.Tests.{lt-leb, lt-ltb, ltb-false, ltb-true, leb-false, eqb-tru
 use Rattle.laws.proofs.Logic.{never}
 use Rattle.frame.specs.declared.Refusal.{Refusal}
 use Rattle.frame.specs.Limits.{thread_count, lock_count, variable_count}
-use Rattle.frame.specs.Frame.{object_fits, action_of, decode_parts, decode_word, split_parts, word_of, encode_parts, encode_frame, ObjectInRange, InRange}
-use Rattle.frame.specs.Refusal.{refusal_number}
+use Rattle.frame.specs.Frame.{object_fits, action_of, decode_parts, decode_word, placed, frame_at, split_parts, word_of, encode_parts, encode_frame, ObjectInRange, InRange}
+use Rattle.frame.specs.Refusal.{refusal_number, refused_at}
 use Rattle.frame.specs.declared.Frame.{Frame}
 use Rattle.frame.specs.declared.Action.{Action}
 use Rattle.frame.specs.declared.Action.TheVariants.{Acquire, Release, Read, Write, Begin, End}
+use Rattle.frame.specs.declared.Refused.{Refused}
 use Rattle.frame.specs.declared.Refusal.TheVariants as refusal
 use Rattle.frame.specs.declared.Parts.{Parts}
 
@@ -171,3 +172,18 @@ number_small refusal.VerdictLine = omega arith
 number_small refusal.TextBuffer = omega arith
 number_small refusal.TooOften = omega arith
 number_small refusal.MovesBuffer = omega arith
+
+-- a frame that stands at a place is what its word decodes to, and so is the reason of one that does not
+pub at_ok : (ws : List ℕ) (i : ℕ) {f : Frame} → frame_at ws i ≡ Ok f → decode_word (get_or ws i 0) ≡ Ok f
+at_ok ws i {f = f} = go (decode_word (get_or ws i 0))
+  where
+    go : (d : Result Frame Refusal) → placed i d ≡ Ok f → d ≡ Ok f
+    go (Ok g) e = let h : g ≡ f = cc in ap Ok h
+    go (Err r) e = let z : ◌≡◌ {A = Result Frame Refused} (Err (refused_at r i)) (Ok f) = e in never (cc)
+
+pub at_err : (ws : List ℕ) (i : ℕ) {x : Refused} → frame_at ws i ≡ Err x → (r : Refusal) × (decode_word (get_or ws i 0) ≡ Err r) × (x ≡ refused_at r i)
+at_err ws i {x = x} = go (decode_word (get_or ws i 0))
+  where
+    go : (d : Result Frame Refusal) → placed i d ≡ Err x → (r : Refusal) × (d ≡ Err r) × (x ≡ refused_at r i)
+    go (Ok g) e = let z : ◌≡◌ {A = Result Frame Refused} (Ok g) (Err x) = e in never (cc)
+    go (Err r) e = (r, refl, let z : ◌≡◌ {A = Result Frame Refused} (Err (refused_at r i)) (Err x) = e in cc)

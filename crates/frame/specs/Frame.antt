@@ -1,9 +1,11 @@
 -- What a 32-bit word means as a frame, and the word of a frame.
 -- "A frame is a 32-bit word: operation in the top 8 bits, thread in the next 8, object in the low 16."
 -- Quotes are from docs/FORMAT.md.
-use Rattle.std.specs.Prelude.{ℕ, ◌+◌, ◌*◌, ◌/◌, ◌%◌, ◌<◌, Bool, cond, ltb, leb, eqb, Result, Ok, Err, Option, Some, None}
+use Rattle.std.specs.Prelude.{ℕ, ◌+◌, ◌*◌, ◌/◌, ◌%◌, ◌<◌, Bool, List, cond, ltb, leb, eqb, get_or, Result, Ok, Err, Option, Some, None}
 use Rattle.frame.specs.Limits.{thread_count, lock_count, variable_count}
+use Rattle.frame.specs.Refusal.{refused_at}
 use Rattle.frame.specs.declared.Frame.{Frame}
+use Rattle.frame.specs.declared.Refused.{Refused}
 use Rattle.frame.specs.declared.Action.{Action}
 use Rattle.frame.specs.declared.Action.TheVariants.{Acquire, Release, Read, Write, Begin, End}
 use Rattle.frame.specs.declared.Refusal.{Refusal}
@@ -34,6 +36,15 @@ decode_parts op t o =
 
 abbrev pub decode_word : ℕ → Result Frame Refusal
 decode_word w = decode_parts (w / 16777216) (w / 65536 % 256) (w % 65536)
+
+-- The same with its place.
+abbrev pub placed : ℕ → Result Frame Refusal → Result Frame Refused
+placed i (Ok f) = Ok f
+placed i (Err r) = Err (refused_at r i)
+
+-- The frame at place i of a recording.
+abbrev pub frame_at : List ℕ → ℕ → Result Frame Refused
+frame_at ws i = placed i (decode_word (get_or ws i 0))
 
 -- The parts as numbers: "operation not 1 to 6", "thread above 31" and objects above all of the table are bad. Whether an object fits its
 -- operation is left open.

@@ -3,8 +3,8 @@
 
 #![tactic(auto)]
 
-ghost use Rattle.std.specs.Prelude.{◌≡◌, true};
-ghost use Rattle.frame.specs.Frame.{object_fits, action_of, decode_word, split_word, encode_frame, word_of};
+ghost use Rattle.std.specs.Prelude.{◌≡◌, ◌<◌, true, length};
+ghost use Rattle.frame.specs.Frame.{object_fits, action_of, decode_word, frame_at, split_word, encode_frame, word_of};
 ghost use Rattle.frame.specs.Refusal.{refusal_number, refused_at, refusal_named};
 
 // The limits of a recording: its threads, locks, variables and frames, the blocks that a thread may have open, and how often it may hold a
@@ -175,6 +175,20 @@ impl TryFrom<u32> for Frame {
             thread: Thread(thread as u8),
             action: action_of(op, object),
         })
+    }
+}
+
+impl Frame {
+    // The frame at a place of a recording, or why its word is none.
+    pub fn at(words: &[u32], place: usize) -> Result<Frame, Refused>
+        requires within { place < length words.now }
+        requires fits { place < 4294967296 }
+        ensures { result ≡ frame_at words.now place }
+    {
+        match Frame::try_from(words[place]) {
+            Ok(frame) => Ok(frame),
+            Err(reason) => Err(reason.at(place as u32)),
+        }
     }
 }
 

@@ -15,20 +15,16 @@ use borrow.Author.Tests.{lt-ltb, le-leb, lt-leb, leb-true, leb-false, eqb-true, 
 use Rattle.frame.specs.Limits.{lock_count, variable_count, most_frames}
 use Rattle.laws.proofs.Logic.{never, from_here}
 use Rattle.laws.proofs.Lists.{get_or_filled}
-use Rattle.frame.specs.declared.Lock.{Lock}
-use Rattle.frame.specs.declared.Variable.{Variable}
 use Rattle.frame.specs.declared.Refused.{Refused}
 use Rattle.frame.specs.declared.Refusal.{Refusal}
 use Rattle.frame.specs.declared.Refusal.TheVariants as refusal
 use Rattle.text.specs.Text.{word_at}
 use Rattle.digits.specs.Digits.{line_of}
 use Rattle.text.proofs.Laws.{Accepted, ends, goes, accepted_length, accepted_line}
-use Rattle.guards.specs.Guards.{guard_of, guard_variable, guard_lock, lines, stopped, guard_line, on_guard_line, guards_from, no_guards, guards_read, unprotected_code}
+use Rattle.guards.specs.Guards.{GuardsRead, guard_of, guard_variable, guard_lock, lines, stopped, guard_line, on_guard_line, guards_from, no_guards, guards_read, unprotected_code}
 use Rattle.guards.specs.Listed.{Listed, ListsAreNeverTooLong}
 use Rattle.guards.specs.declared.Guard.TheVariants.{Locked, Unprotected}
 use Rattle.guards.specs.declared.GuardLine.{GuardLine}
-use Rattle.guards.specs.declared.GuardLine.TheVariants as guard_lines
-use Rattle.guards.specs.declared.GuardsRead.{GuardsRead}
 
 -- the lines from line i on, with the table g
 module _ (s : List ℕ) (i : ℕ) (g : List ℕ) where
@@ -46,24 +42,28 @@ module _ (s : List ℕ) (i : ℕ) (g : List ℕ) where
   unfolding guards_from
   guards_step k m e h = rw (e, lt-leb (length s) (9 * i) h)
 
+-- what is read, part by part
+pub told : {x y : GuardsRead} → x ≡ y → (y.reply ≡ x.reply) × (y.table ≡ x.table)
+told e = (sym (ap (λ (z : GuardsRead). z.reply) e), sym (ap (λ (z : GuardsRead). z.table) e))
+
 -- one line read: the callees' answers, and how reading goes on
-pub guards_turn : (s : List ℕ) (i : ℕ) (g : List ℕ) {x : GuardsRead} {l : (Option ℕ)} {o : GuardLine} → x ≡ guards_from (most_frames - i) s i g → i < most_frames → 9 * i < length s
+pub guards_turn : (s : List ℕ) (i : ℕ) (g : List ℕ) {x : GuardsRead} {l : Option ℕ} {o : Result GuardLine Refusal} → x ≡ guards_from (most_frames - i) s i g → i < most_frames → 9 * i < length s
     → l ≡ line_of s (9 * i) → o ≡ guard_line l → x ≡ on_guard_line o i g (λ g'. guards_from (most_frames - (i + 1)) s (i + 1) g')
 guards_turn s i g e h more p q = e ∙ guards_step s i g (most_frames - i) (most_frames - (i + 1)) (omega arith) more ∙ rw (q, p)
 
-same_variable : (v w : Variable) (k l : Lock) → guard_lines.Names w l ≡ guard_lines.Names v k → v ≡ w
-same_variable v w k l e = cc
+same_line : (x y : GuardLine) → ◌≡◌ {A = Result GuardLine Refusal} (Ok y) (Ok x) → x ≡ y
+same_line x y e = cc
 
 -- a variable that a line names has an entry in the table
-pub names_variable : (l : Option ℕ) (v : Variable) (k : Lock) → guard_line l ≡ guard_lines.Names v k → v.0 < variable_count
-names_variable (Some w) v k e = go (leb variable_count (guard_variable w)) refl (leb lock_count (guard_lock w)) refl
+pub names_variable : (l : Option ℕ) (x : GuardLine) → guard_line l ≡ Ok x → x.variable.0 < variable_count
+names_variable (Some w) x e = go (leb variable_count (guard_variable w)) refl (leb lock_count (guard_lock w)) refl
   where
-    go : (a : Bool) → leb variable_count (guard_variable w) ≡ a → (b : Bool) → leb lock_count (guard_lock w) ≡ b → v.0 < variable_count
-    go true x b y = let f : guard_lines.Bad refusal.GuardRange ≡ guard_lines.Names v k = rw x at e in never (cc)
-    go false x true y = let f : guard_lines.Bad refusal.GuardRange ≡ guard_lines.Names v k = rw (x, y) at e in never (cc)
-    go false x false y =
-        rw (same_variable v _ k _ (rw (x, y) at e)) (omega (arith, leb-false variable_count (guard_variable w) x))
-names_variable None v k e = never (cc)
+    go : (a : Bool) → leb variable_count (guard_variable w) ≡ a → (b : Bool) → leb lock_count (guard_lock w) ≡ b → x.variable.0 < variable_count
+    go true p b q = let f : ◌≡◌ {A = Result GuardLine Refusal} (Err refusal.GuardRange) (Ok x) = rw p at e in never (cc)
+    go false p true q = let f : ◌≡◌ {A = Result GuardLine Refusal} (Err refusal.GuardRange) (Ok x) = rw (p, q) at e in never (cc)
+    go false p false q =
+        rw (same_line x _ (rw (p, q) at e)) (omega (arith, leb-false variable_count (guard_variable w) p))
+names_variable None x e = never (cc)
 
 -- A guard line's word that is taken where the table of the lines before is g.
 pub record Taken (g : List ℕ) (w : ℕ) : Type 0 where

@@ -4,16 +4,16 @@
 use Rattle.std.specs.Prelude.{ℕ, zero, suc, ◌+◌, ◌*◌, ◌/◌, ◌%◌, cond, List, length, get_or, set, replicate, ltb, leb, eqb, Ok, Err, Option, Some, None, Result}
 use Rattle.frame.specs.Refusal.{refused_at}
 use Rattle.frame.specs.Limits.{lock_count, variable_count, most_frames}
+use Rattle.frame.specs.declared.Refused.{Refused}
 use Rattle.frame.specs.declared.Refusal.{Refusal}
 use Rattle.frame.specs.declared.Refusal.TheVariants as refusal
 use Rattle.digits.specs.Digits.{line_of}
 use Rattle.text.specs.Text.{word_at}
-use Rattle.guards.specs.declared.Judgement.{Judgement}
-use Rattle.guards.specs.declared.Judgement.TheVariants as judgement
+use Rattle.guards.specs.Judgement as judgement
+use Rattle.guards.specs.Judgement.{Judgement}
 use Rattle.guards.specs.declared.Guard.{Guard}
 use Rattle.guards.specs.declared.Guard.TheVariants.{Locked, Unprotected, Inferred}
 use Rattle.guards.specs.declared.GuardLine.{GuardLine}
-use Rattle.guards.specs.declared.GuardsRead.{GuardsRead}
 
 -- The codes of a variable that is unprotected, and of one whose guard is inferred; below them, a lock is its own code.
 abbrev pub unprotected_code : ℕ
@@ -32,6 +32,11 @@ guard_variable w = w / 65536
 
 abbrev pub guard_lock : ℕ → ℕ
 guard_lock w = w % 65536
+
+-- What reading a guard list answers: its number of lines or its refusal, and the table that its lines give.
+pub record GuardsRead : Type 0 where
+  pub reply : Result ℕ Refused
+  pub table : List ℕ
 
 abbrev pub lines : ℕ → List ℕ → GuardsRead
 lines n g = record { reply = Ok n; table = g }
@@ -52,7 +57,7 @@ guard_line None = Err refusal.Line
 -- `more` takes the table with the line's guard.
 abbrev pub on_guard_line : Result GuardLine Refusal → ℕ → List ℕ → (List ℕ → GuardsRead) → GuardsRead
 on_guard_line (Ok x) i g more =
-    cond (eqb (get_or g v.0 0) unprotected_code) (more (set g v.0 l.0)) (stopped refusal.GuardRepeated i g)
+    cond (eqb (get_or g x.variable.0 0) unprotected_code) (more (set g x.variable.0 x.lock.0)) (stopped refusal.GuardRepeated i g)
 on_guard_line (Err r) i g more = stopped r i g
 
 -- "guard list, line by line": the lines from line i on, of which k more may come, with the table g of the lines before.

@@ -4,6 +4,7 @@
 
 ghost use Rattle.std.specs.Prelude.{◌≡◌};
 ghost use Rattle.guards.specs.Guards.{guard_of, guard_line, guards_read, guards_under};
+ghost use Rattle.guards.specs.Judgement.{way_of, list_of};
 
 use digits::read_line;
 use frame::{LOCKS, Lock, MOST, MOST_PLACE, Refusal, Refused, VARIABLES, Variable};
@@ -21,8 +22,8 @@ const LOCK_END: u32 = LOCKS as u32;
 
 // How guards are given: declared by a guard list, or all inferred.
 #[derive(Clone, Copy)]
-pub enum Judgement {
-    Declared,
+pub enum Judgement<'a> {
+    Declared(&'a [u8]),
     Inferred,
 }
 
@@ -41,39 +42,29 @@ struct GuardLine {
     lock: Lock,
 }
 
-// What reading a guard list answers. Where the list is refused, the table is the one that the lines before give.
-#[derive(Drop)]
-pub struct GuardsRead {
-    pub reply: Result<u32, Refused>,
-    pub table: [u8; VARIABLES],
-}
-
 // The guard that a code of a table stands for.
 pub fn guard_of(code: u8) -> Guard
     ensures { result ≡ guard_of code }
 {
     if code < UNPROTECTED {
-        return Guard::Locked(Lock(code));
+        Guard::Locked(Lock(code))
+    } else if code == UNPROTECTED {
+        Guard::Unprotected
+    } else {
+        Guard::Inferred
     }
-    if code == UNPROTECTED {
-        return Guard::Unprotected;
-    }
-    Guard::Inferred
 }
 
 // What a line names on its own: a variable and its lock, or why it is refused.
-fn guard_line(l: Option<u32>) -> Result<GuardLine, Refusal>
-    ensures { result ≡ guard_line l }
+fn guard_line(line: Option<u32>) -> Result<GuardLine, Refusal>
+    ensures { result ≡ guard_line line }
 {
-    let Some(w) = l else {
+    let Some(word) = line else {
         return Err(Refusal::Line);
     };
-    let variable = w / 65536;
-    let lock = w % 65536;
-    if VARIABLE_END <= variable {
-        return Err(Refusal::GuardRange);
-    }
-    if LOCK_END <= lock {
+    let variable = word / 0x10000;
+    let lock = word % 0x10000;
+    if VARIABLE_END <= variable || LOCK_END <= lock {
         return Err(Refusal::GuardRange);
     }
     Ok(GuardLine {
@@ -82,70 +73,47 @@ fn guard_line(l: Option<u32>) -> Result<GuardLine, Refusal>
     })
 }
 
-// The guards of a list: each line names a variable and its lock, and a variable that no line names is unprotected.
-pub fn read_guards(list: &[u8]) -> GuardsRead
-    ensures { result ≡ guards_read list.now }
+// The guards of a list, and its number of lines: each line names a variable and its lock, and a variable that no line names is unprotected.
+// Where the list is refused, the table is the one that the lines before give.
+pub fn read_guards(list: &[u8], table: &mut [u8; VARIABLES]) -> Result<u32, Refused>
+    ensures reply { result ≡ (guards_read list.now).reply }
+    ensures table { table.new ≡ (guards_read list.now).table }
 {
-    let mut table = [UNPROTECTED; VARIABLES];
-    let mut i: usize = 0;
-    while i < MOST {
+    *table = [UNPROTECTED; VARIABLES];
+    for i in 0..MOST {
         if list.len() <= 9 * i {
-            return GuardsRead {
-                reply: Ok(i as u32),
-                table: table,
-            };
+            return Ok(i as u32);
         }
-        let l = guard_line(read_line(list, 9 * i));
-        match l {
-            Err(r) => {
-                return GuardsRead {
-                    reply: Err(Refused {
-                        reason: r,
-                        place: i as u32,
-                    }),
-                    table: table,
-                };
-            }
-            Ok(g) => {
-                let x = g.variable.0 as usize;
-                if table[x] != UNPROTECTED {
-                    return GuardsRead {
-                        reply: Err(Refused {
-                            reason: Refusal::GuardRepeated,
-                            place: i as u32,
-                        }),
-                        table: table,
-                    };
+        match guard_line(read_line(list, 9 * i)) {
+            Err(reason) => return Err(reason.at(i as u32)),
+            Ok(line) => {
+                let v = usize::from(line.variable.0);
+                if table[v] != UNPROTECTED {
+                    return Err(Refusal::GuardRepeated.at(i as u32));
                 }
-                table[x] = g.lock.0;
-                i += 1;
+                table[v] = line.lock.0;
             }
         }
     }
     if list.len() <= MOST_BYTES {
-        return GuardsRead {
-            reply: Ok(MOST_PLACE),
-            table: table,
-        };
-    }
-    GuardsRead {
-        reply: Err(Refused {
-            reason: Refusal::TooLong,
-            place: MOST_PLACE,
-        }),
-        table: table,
+        Ok(MOST_PLACE)
+    } else {
+        Err(Refusal::TooLong.at(MOST_PLACE))
     }
 }
 
-// The guards of a judgement: those that a list names, or all inferred, for which no list is read.
-pub fn guards_under(j: Judgement, list: &[u8]) -> GuardsRead
-    ensures { result ≡ guards_under j list.now }
-{
-    match j {
-        Judgement::Declared => read_guards(list),
-        Judgement::Inferred => GuardsRead {
-            reply: Ok(0),
-            table: [INFERRED; VARIABLES],
-        },
+impl Judgement<'_> {
+    // The guards of a judgement: those that its list names, or all inferred. The reply is the number of lines read.
+    pub fn guards(self, table: &mut [u8; VARIABLES]) -> Result<u32, Refused>
+        ensures reply { result ≡ (guards_under (way_of self.entry) (list_of self.entry)).reply }
+        ensures table { table.new ≡ (guards_under (way_of self.entry) (list_of self.entry)).table }
+    {
+        match self {
+            Judgement::Declared(list) => read_guards(list, table),
+            Judgement::Inferred => {
+                *table = [INFERRED; VARIABLES];
+                Ok(0)
+            }
+        }
     }
 }

@@ -1,8 +1,9 @@
 -- The locks that a thread holds, as a set: by the owners, and as the code keeps them in a table of one set for each thread.
 -- Quotes are from docs/FORMAT.md.
-use Rattle.std.specs.Prelude.{ℕ, ◌+◌, ◌-◌, ◌*◌, ◌^◌, ◌≤◌, ◌<◌, ◌≡◌, cond, List, [], ◌∷◌, eqb, length, get_or, set, Ok, Err}
+use Rattle.std.specs.Prelude.{ℕ, ◌+◌, ◌-◌, ◌*◌, ◌^◌, ◌≤◌, ◌<◌, ◌≡◌, cond, List, [], ◌∷◌, eqb, length, get_or, set, replicate, Ok, Err}
 use Rattle.frame.specs.Limits.{thread_count, lock_count, variable_count}
 use Rattle.reply.specs.Reply.{Verdict}
+use Rattle.instrumented.specs.declared.Threads.{Threads}
 use Rattle.operation.specs.declared.Operation.{Operation}
 use Rattle.operation.specs.declared.Operation.TheVariants.{Acquire, Release, Protected, Unprotected, Inferred, Begin, End}
 
@@ -32,8 +33,12 @@ held t Begin hs = hs
 held t End hs = hs
 
 abbrev pub holding : Verdict → ℕ → Operation → List ℕ → List ℕ
-holding (Ok tt) t o hs = held t o hs
+holding (Ok _) t o hs = held t o hs
 holding (Err v) t o hs = hs
+
+-- "A recording starts with no lock held and no block open."
+abbrev pub start_threads : Threads
+start_threads = record { held = replicate thread_count 0; begins = replicate thread_count 0; commits = replicate thread_count 0 }
 
 -- The table of held sets is that of the owners.
 pub record Follows (held owners : List ℕ) : Type 0 where

@@ -5,9 +5,9 @@
 ghost use Rattle.std.specs.Prelude.{◌≡◌, ◌+◌, ◌-◌, ◌^◌, ◌/◌, ◌%◌, ◌<◌, cond, true, false, get_or, eqb};
 ghost use Rattle.frame.specs.Limits.{thread_count, lock_count};
 ghost use Rattle.instrumented.specs.Rules.{fault_verdict, phase_at, committed, judging_of, judged, judge_operation};
-ghost use Rattle.instrumented.specs.Held.{Holdable, holding};
+ghost use Rattle.instrumented.specs.Held.{Holdable, holding, start_threads};
 
-use frame::{Lock, THREADS, Thread, VARIABLES};
+use frame::{Lock, THREADS, Thread, VARIABLES, Variable};
 use operation::Operation;
 use reply::Kind;
 
@@ -18,122 +18,131 @@ pub struct Fault {
     pub locks: u64,
 }
 
+// One operation of a thread at a place of the recording, and the depth of the thread before it.
+#[derive(Clone, Copy)]
+pub struct Step {
+    pub place: u32,
+    pub thread: Thread,
+    pub depth: u8,
+    pub operation: Operation,
+}
+
+// Where the threads stand between two frames: of each the set of the locks that it holds, the place of its outermost begin, and its commit,
+// 0 for none and else the commit's place plus 1.
+#[derive(Drop)]
+pub struct Threads {
+    pub held: [u64; THREADS],
+    pub begins: [u32; THREADS],
+    pub commits: [u32; THREADS],
+}
+
 // The set of one lock.
-fn single(l: Lock) -> u64
-    requires { l.0 < lock_count }
-    ensures { result ≡ 2 ^ l.0 }
+fn single(lock: Lock) -> u64
+    requires { lock.0 < lock_count }
+    ensures { result ≡ 2 ^ lock.0 }
 {
-    1u64 << l.0
+    1 << lock.0
 }
 
-fn contains(s: u64, l: Lock) -> bool
-    requires { l.0 < lock_count }
-    ensures { result ≡ eqb (s / 2 ^ l.0 % 2) 1 }
+fn contains(set: u64, lock: Lock) -> bool
+    requires { lock.0 < lock_count }
+    ensures { result ≡ eqb (set / 2 ^ lock.0 % 2) 1 }
 {
-    (s >> l.0) % 2 == 1
+    (set >> lock.0) % 2 == 1
 }
 
-fn after_commit(d: u8, commit: u32) -> bool
-    ensures { result ≡ cond (eqb d 0) false (cond (eqb commit 0) false true) }
+fn after_commit(depth: u8, commit: u32) -> bool
+    ensures { result ≡ cond (eqb depth 0) false (cond (eqb commit 0) false true) }
 {
-    if d == 0 {
-        return false;
-    }
-    if commit == 0 {
-        return false;
-    }
-    true
+    depth != 0 && commit != 0
 }
 
-// The commit of a thread after a frame at place i that commits the block it stands in.
-fn commit_at(d: u8, commit: u32, i: u32) -> u32
-    requires { i < 4294967295 }
-    ensures { result ≡ committed d commit i }
+// The commit of a thread after a frame that commits the block it stands in.
+fn commit_at(depth: u8, commit: u32, place: u32) -> u32
+    requires { place < 4294967295 }
+    ensures { result ≡ committed depth commit place }
 {
-    if d == 0 {
-        return commit;
+    if depth != 0 && commit == 0 {
+        place + 1
+    } else {
+        commit
     }
-    if commit == 0 {
-        return i + 1;
-    }
-    commit
 }
 
-// The rules for one operation of a thread at depth d, at place i: the state after it, or what is wrong, which leaves the state as it was.
-pub fn apply(
-    held: &mut [u64; THREADS],
-    begins: &mut [u32; THREADS],
-    commits: &mut [u32; THREADS],
-    sets: &mut [u64; VARIABLES],
-    d: u8,
-    i: u32,
-    thread: Thread,
-    op: Operation,
-) -> Result<(), Fault>
-    requires fact_1 { thread.0 < thread_count }
-    requires fact_2 { i < 4294967295 }
-    requires fact_3 { Holdable op (get_or held.old thread.0 0) }
-    ensures rules { judge_operation i thread d (get_or held.old thread.0 0) op (judging_of begins.old commits.old sets.old) ≡ judged (fault_verdict result i thread (phase_at d thread (judging_of begins.old commits.old sets.old))) (judging_of begins.new commits.new sets.new) }
-    ensures locks { held.new ≡ holding (fault_verdict result i thread (phase_at d thread (judging_of begins.old commits.old sets.old))) thread.0 op held.old }
-{
-    let k = thread.0 as usize;
-    match op {
-        Operation::Acquire(l) => {
-            let s = single(l);
-            if after_commit(d, commits[k]) {
-                return Err(Fault {
-                    kind: Kind::AcquireAfterCommit,
-                    locks: s,
-                });
+impl Threads {
+    // No thread holds a lock or is in a block.
+    pub fn new() -> Threads
+        ensures { result ≡ start_threads }
+    {
+        Threads {
+            held: [0; THREADS],
+            begins: [0; THREADS],
+            commits: [0; THREADS],
+        }
+    }
+
+    // The rules for one operation: the threads and the candidate sets after it, or what is wrong, which leaves them as they were.
+    pub fn apply(&mut self, sets: &mut [u64; VARIABLES], step: Step) -> Result<(), Fault>
+        requires thread_in { step.thread.0 < thread_count }
+        requires place_in { step.place < 4294967295 }
+        requires holdable { Holdable step.operation (get_or self.old.held step.thread.0 0) }
+        ensures rules { judge_operation step.place step.thread step.depth (get_or self.old.held step.thread.0 0) step.operation (judging_of self.old.begins self.old.commits sets.old) ≡ judged (fault_verdict result step.place step.thread (phase_at step.depth step.thread (judging_of self.old.begins self.old.commits sets.old))) (judging_of self.new.begins self.new.commits sets.new) }
+        ensures locks { self.new.held ≡ holding (fault_verdict result step.place step.thread (phase_at step.depth step.thread (judging_of self.old.begins self.old.commits sets.old))) step.thread.0 step.operation self.old.held }
+    {
+        let t = step.thread.0 as usize;
+        let depth = step.depth;
+        match step.operation {
+            Operation::Acquire(lock) => {
+                if after_commit(depth, self.commits[t]) {
+                    return Err(Fault {
+                        kind: Kind::AcquireAfterCommit,
+                        locks: single(lock),
+                    });
+                }
+                self.held[t] += single(lock);
             }
-            held[k] = held[k] + s;
-            Ok(())
-        }
-        Operation::Release(l) => {
-            held[k] = held[k] - single(l);
-            commits[k] = commit_at(d, commits[k], i);
-            Ok(())
-        }
-        Operation::Protected(m) => {
-            if contains(held[k], m) {
-                return Ok(());
+            Operation::Release(lock) => {
+                self.held[t] -= single(lock);
+                self.commits[t] = commit_at(depth, self.commits[t], step.place);
             }
-            Err(Fault {
-                kind: Kind::GuardNotHeld,
-                locks: single(m),
-            })
-        }
-        Operation::Unprotected => {
-            let c = commits[k];
-            if after_commit(d, c) {
-                return Err(Fault {
-                    kind: Kind::UnprotectedAfterCommit,
-                    locks: 0,
-                });
+            Operation::Protected(guard) => {
+                if !contains(self.held[t], guard) {
+                    return Err(Fault {
+                        kind: Kind::GuardNotHeld,
+                        locks: single(guard),
+                    });
+                }
             }
-            commits[k] = commit_at(d, c, i);
-            Ok(())
-        }
-        Operation::Inferred(v) => {
-            let n = v.0 as usize;
-            let s = sets[n];
-            let x = s & held[k];
-            if x == 0 {
-                return Err(Fault {
-                    kind: Kind::SetEmptied,
-                    locks: s,
-                });
+            Operation::Unprotected => {
+                let commit = self.commits[t];
+                if after_commit(depth, commit) {
+                    return Err(Fault {
+                        kind: Kind::UnprotectedAfterCommit,
+                        locks: 0,
+                    });
+                }
+                self.commits[t] = commit_at(depth, commit, step.place);
             }
-            sets[n] = x;
-            Ok(())
-        }
-        Operation::Begin => {
-            if d == 0 {
-                begins[k] = i;
-                commits[k] = 0;
+            Operation::Inferred(Variable(variable)) => {
+                let v = variable as usize;
+                let set = sets[v];
+                let shared = set & self.held[t];
+                if shared == 0 {
+                    return Err(Fault {
+                        kind: Kind::SetEmptied,
+                        locks: set,
+                    });
+                }
+                sets[v] = shared;
             }
-            Ok(())
+            Operation::Begin => {
+                if depth == 0 {
+                    self.begins[t] = step.place;
+                    self.commits[t] = 0;
+                }
+            }
+            Operation::End => {}
         }
-        Operation::End => Ok(()),
+        Ok(())
     }
 }

@@ -3,7 +3,7 @@
 use Rattle.std.specs.Prelude.{ℕ, List, ℤ, length, Result}
 use Rattle.frame.specs.declared.Refusal.TheVariants as refusal
 use Rattle.guards.specs.Guards.{guards_under}
-use Rattle.guards.specs.declared.Judgement.{Judgement}
+use Rattle.guards.specs.Judgement.{Judgement}
 use Rattle.order.specs.Order.{reply_by, out_after, reply_under}
 use Rattle.displacement.specs.Displacement.{displacements}
 use Rattle.frame.specs.declared.Refused.{Refused}

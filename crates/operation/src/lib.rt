@@ -24,38 +24,35 @@ pub enum Operation {
     End,
 }
 
-fn access_of(guards: &[u8; VARIABLES], v: Variable) -> Operation
-    requires { v.0 < variable_count }
-    ensures { result ≡ access_of guards.now v }
+fn access_of(guards: &[u8; VARIABLES], variable: Variable) -> Operation
+    requires { variable.0 < variable_count }
+    ensures { result ≡ access_of guards.now variable }
 {
-    let n = v.0 as usize;
-    let g = guards::guard_of(guards[n]);
-    match g {
-        Guard::Locked(m) => Operation::Protected(m),
+    match guards::guard_of(guards[variable.0 as usize]) {
+        Guard::Locked(lock) => Operation::Protected(lock),
         Guard::Unprotected => Operation::Unprotected,
-        Guard::Inferred => Operation::Inferred(v),
+        Guard::Inferred => Operation::Inferred(variable),
     }
 }
 
 // An acquire or a release of a lock.
-fn at_level(level: Level, op: Operation, l: Lock) -> Operation
-    ensures { result ≡ at_level level op l }
+fn at_level(level: Level, operation: Operation, lock: Lock) -> Operation
+    ensures { result ≡ at_level level operation lock }
 {
     match level {
-        Level::Outer => op,
-        Level::Inner => Operation::Protected(l),
+        Level::Outer => operation,
+        Level::Inner => Operation::Protected(lock),
     }
 }
 
-pub fn operation_of(guards: &[u8; VARIABLES], level: Level, a: Action) -> Operation
-    requires { ObjectInRange a }
-    ensures { result ≡ operation_of guards.now level a }
+pub fn operation_of(guards: &[u8; VARIABLES], level: Level, action: Action) -> Operation
+    requires { ObjectInRange action }
+    ensures { result ≡ operation_of guards.now level action }
 {
-    match a {
-        Action::Acquire(l) => at_level(level, Operation::Acquire(l), l),
-        Action::Release(l) => at_level(level, Operation::Release(l), l),
-        Action::Read(v) => access_of(guards, v),
-        Action::Write(v) => access_of(guards, v),
+    match action {
+        Action::Acquire(lock) => at_level(level, Operation::Acquire(lock), lock),
+        Action::Release(lock) => at_level(level, Operation::Release(lock), lock),
+        Action::Read(variable) | Action::Write(variable) => access_of(guards, variable),
         Action::Begin => Operation::Begin,
         Action::End => Operation::End,
     }

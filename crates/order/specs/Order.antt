@@ -5,7 +5,7 @@ use Rattle.frame.specs.Refusal.{refused_at}
 use Rattle.frame.specs.declared.Refusal.{Refusal}
 use Rattle.frame.specs.declared.Refusal.TheVariants as refusal
 use Rattle.guards.specs.Guards.{guards_under}
-use Rattle.guards.specs.declared.Judgement.{Judgement}
+use Rattle.guards.specs.Judgement.{Judgement}
 use Rattle.reply.specs.Reply.{Reply}
 use Rattle.pass.specs.Pass.{full_sets, judgement, open_at_end}
 use Rattle.serial.specs.Order.{serial_words}

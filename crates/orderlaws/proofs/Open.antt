@@ -18,7 +18,8 @@ use Rattle.frame.specs.Limits.{thread_count}
 use Rattle.laws.proofs.Logic.{never, from_here, by_test}
 use Rattle.frame.specs.Frame.{decode_word}
 use Rattle.frame.specs.declared.Frame.{Frame}
-use Rattle.soundness.specs.Soundness.{State, Checked, stepped, step_frame, check_from, start}
+use Rattle.soundness.specs.Soundness.{Checked, stepped, step_frame, check_from, start}
+use Rattle.soundness.specs.declared.State.{State}
 use Rattle.soundness.specs.declared.Level.{Level}
 use Rattle.instrumented.specs.Rules.{Judging}
 use Rattle.rules.specs.Choice.{Reducible}

@@ -15,7 +15,8 @@ use Rattle.frame.specs.Limits.{thread_count}
 use Rattle.laws.proofs.Logic.{never, either, from_here, by_test}
 use Rattle.frame.specs.declared.Frame.{Frame}
 use Rattle.frame.specs.declared.Action.{Action}
-use Rattle.soundness.specs.Soundness.{State, check_from, start, nest}
+use Rattle.soundness.specs.Soundness.{check_from, start, nest}
+use Rattle.soundness.specs.declared.State.{State}
 use Rattle.soundness.specs.declared.Level.{Level}
 use Rattle.operation.specs.Operation.{operation_of}
 use Rattle.operation.specs.declared.Operation.{Operation}

@@ -19,7 +19,8 @@ use Rattle.frame.specs.declared.Thread.{Thread}
 use Rattle.frame.specs.declared.Frame.{Frame}
 use Rattle.frame.specs.declared.Action.{Action}
 use Rattle.reply.specs.Reply.{reducible, Verdict}
-use Rattle.soundness.specs.Soundness.{State, stepped, step_frame, check_from, start, nest}
+use Rattle.soundness.specs.Soundness.{stepped, step_frame, check_from, start, nest}
+use Rattle.soundness.specs.declared.State.{State}
 use Rattle.soundness.specs.declared.Level.{Level}
 use Rattle.instrumented.specs.Rules.{outside, before, after, Judging, judged, phase_of}
 use Rattle.operation.specs.Operation.{operation_of}

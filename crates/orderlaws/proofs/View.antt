@@ -25,7 +25,8 @@ use Rattle.guards.specs.Guards.{guard_of}
 use Rattle.guards.specs.declared.Guard.{Guard}
 use Rattle.guards.specs.declared.Guard.TheVariants as guard
 use Rattle.reply.specs.declared.Violation.{Violation}
-use Rattle.soundness.specs.Soundness.{State, owner_of, count_of, with_count, with_owner, Stepped, nest, state_of, stepped, step_action, step_frame}
+use Rattle.soundness.specs.Soundness.{owner_of, count_of, with_count, with_owner, Stepped, nest, state_of, stepped, step_action, step_frame}
+use Rattle.soundness.specs.declared.State.{State}
 use Rattle.soundness.specs.declared.Level.{Level}
 use Rattle.soundness.proofs.Laws.{spared, Acquired, took, took_again, acquired, Released, freed, let_go, released}
 use Rattle.instrumented.specs.Rules.{outside, before, after, Judging, judging_of, Judged, judged, contains, committed, with_commit, acquire_in, unprotected_in, judge_operation}

@@ -23,7 +23,8 @@ use Rattle.frame.specs.declared.Action.{Action}
 use Rattle.frame.specs.declared.Action.TheVariants as action
 use Rattle.frame.proofs.Laws.{decoded_in_range}
 use Rattle.guards.specs.Guards.{guard_of, unprotected_code}
-use Rattle.soundness.specs.Soundness.{State, owner_of, count_of, Stepped, stepped, step_action, step_frame, start, nest}
+use Rattle.soundness.specs.Soundness.{owner_of, count_of, Stepped, stepped, step_action, step_frame, start, nest}
+use Rattle.soundness.specs.declared.State.{State}
 use Rattle.soundness.specs.declared.Level.{Level}
 use Rattle.soundness.proofs.Laws.{spared, Acquired, took, took_again, acquired, Released, freed, let_go, released}
 use Rattle.instrumented.specs.Rules.{Judging}

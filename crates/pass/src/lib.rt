@@ -5,132 +5,76 @@
 
 ghost use Rattle.std.specs.Prelude.{◌≡◌, ◌≤◌, length};
 ghost use Rattle.frame.specs.Limits.{thread_count, most_frames};
-ghost use Rattle.reply.specs.Reply.{refused as refusedReply};
-ghost use Rattle.pass.specs.Pass.{judgement, sets_left, after_check, earlier, first_open_from, open_at_end, passed_with};
+ghost use Rattle.soundness.specs.Soundness.{start};
+ghost use Rattle.instrumented.specs.Rules.{judging_of};
+ghost use Rattle.instrumented.specs.Held.{start_threads};
+ghost use Rattle.pass.specs.Pass.{judgement, sets_left, earlier, first_open_from, first_open, open_under, open_at_end};
 
-use frame::{LOCKS, MOST, MOST_PLACE, Refusal, Refused, THREADS, VARIABLES};
-use reply::{Reply, Violation};
+use frame::{Frame, MOST, MOST_PLACE, Refusal, THREADS, VARIABLES};
+use instrumented::Threads;
+use reply::Reply;
+use soundness::State;
 use turn::Stop;
 
 // What a pass answers: the reply, and the first open begin at the end of a recording that is reducible.
-#[derive(Drop)]
+#[derive(Clone, Copy)]
 pub struct Passed {
     pub reply: Reply,
     pub unclosed: Option<u32>,
-}
-
-fn refused(r: Refusal, i: u32) -> Passed
-    ensures { result ≡ passed_with (refusedReply r i) None }
-{
-    Passed {
-        reply: Err(Refused {
-            reason: r,
-            place: i,
-        }),
-        unclosed: None,
-    }
-}
-
-fn after_check(q: Result<(), Refused>, v: Violation) -> Passed
-    ensures { result ≡ passed_with (after_check q v) None }
-{
-    match q {
-        Err(x) => Passed {
-            reply: Err(x),
-            unclosed: None,
-        },
-        Ok(()) => Passed {
-            reply: Ok(Err(v)),
-            unclosed: None,
-        },
-    }
 }
 
 // The earlier of two places.
 fn earlier_of(a: Option<u32>, b: Option<u32>) -> Option<u32>
     ensures { result ≡ earlier a b }
 {
-    let Some(x) = a else {
-        return b;
-    };
-    let Some(y) = b else {
-        return Some(x);
-    };
-    if y < x {
-        return Some(y);
+    match (a, b) {
+        (Some(x), Some(y)) => Some(if y < x { y } else { x }),
+        (None, _) => b,
+        (_, None) => a,
     }
-    Some(x)
 }
 
 // The earliest begin of a block that is open.
-fn first_open(depths: &[u8; THREADS], begins: &[u32; THREADS]) -> Option<u32>
+fn earliest_open(depths: &[u8; THREADS], begins: &[u32; THREADS]) -> Option<u32>
     ensures { result ≡ first_open_from thread_count 0 None depths.now begins.now }
 {
     let mut least = None;
-    let mut k: usize = 0;
-    while k < THREADS {
-        if depths[k] != 0 {
-            let b = Some(begins[k]);
-            least = earlier_of(least, b);
+    for t in 0..THREADS {
+        if depths[t] != 0 {
+            least = earlier_of(least, Some(begins[t]));
         }
-        k += 1;
     }
     least
 }
 
-fn run(words: &[u32], guards: &[u8; VARIABLES], sets: &mut [u64; VARIABLES]) -> Passed
-    requires { length words.now ≤ most_frames }
-    ensures reply { result.reply ≡ (judgement guards.now sets.old words.now).reply }
-    ensures unclosed { result.unclosed ≡ open_at_end (judgement guards.now sets.old words.now) }
+// The frames of a recording that is not too long, from the start on. Where it is reducible, the state and the threads are those at its end.
+fn run(
+    words: &[u32],
+    guards: &[u8; VARIABLES],
+    state: &mut State,
+    threads: &mut Threads,
+    sets: &mut [u64; VARIABLES],
+) -> Reply
+    requires fits { length words.now ≤ most_frames }
+    requires nothing_locked { state.old ≡ start }
+    requires nothing_begun { threads.old ≡ start_threads }
+    ensures reply { result ≡ (judgement guards.now sets.old words.now).reply }
+    ensures unclosed { open_under result (first_open state.new (judging_of threads.new.begins threads.new.commits sets.new)) ≡ open_at_end (judgement guards.now sets.old words.now) }
     ensures contents { sets.new ≡ sets_left guards.now sets.old words.now }
 {
-    let mut owners = [0u8; LOCKS];
-    let mut counts = [0u8; LOCKS];
-    let mut depths = [0u8; THREADS];
-    let mut held = [0u64; THREADS];
-    let mut begins = [0u32; THREADS];
-    let mut commits = [0u32; THREADS];
-    let n = words.len() as u32;
-    let mut i: u32 = 0;
-    while i < n {
-        let d = frame::decode(words[i as usize]);
-        let Ok(f) = d else {
-            return refused(frame::refusal_of(d), i);
-        };
-        let q = turn::judge_frame(
-            guards,
-            &mut owners,
-            &mut counts,
-            &mut depths,
-            &mut held,
-            &mut begins,
-            &mut commits,
-            sets,
-            i,
-            f,
-        );
-        match q {
-            Err(Stop::Refused(r)) => {
-                return refused(r, i);
-            }
-            Err(Stop::Wrong(v)) => {
-                let c = soundness::check_from(
-                    words,
-                    &mut owners,
-                    &mut counts,
-                    &mut depths,
-                    i as usize + 1,
-                );
-                return after_check(c, v);
-            }
-            Ok(()) => {}
+    for i in 0..words.len() {
+        let frame = Frame::at(words, i)?;
+        if let Err(stop) = turn::judge_frame(guards, state, threads, sets, i as u32, frame) {
+            return match stop {
+                Stop::Refused(reason) => Err(reason.at(i as u32)),
+                Stop::Wrong(violation) => {
+                    state.check_from(words, i + 1)?;
+                    Ok(Err(violation))
+                }
+            };
         }
-        i += 1;
     }
-    Passed {
-        reply: Ok(Ok(())),
-        unclosed: first_open(&depths, &begins),
-    }
+    Ok(Ok(()))
 }
 
 // The reply, the first open begin, and the candidate sets as far as the pass came.
@@ -144,7 +88,17 @@ pub fn judge_recording(
     ensures contents { sets.new ≡ sets_left guards.now sets.old words.now }
 {
     if MOST < words.len() {
-        return refused(Refusal::TooLong, MOST_PLACE);
+        return Passed {
+            reply: Err(Refusal::TooLong.at(MOST_PLACE)),
+            unclosed: None,
+        };
     }
-    run(words, guards, sets)
+    let mut state = State::new();
+    let mut threads = Threads::new();
+    let reply = run(words, guards, &mut state, &mut threads, sets);
+    let unclosed = match reply {
+        Ok(Ok(())) => earliest_open(&state.depths, &threads.begins),
+        _ => None,
+    };
+    Passed { reply, unclosed }
 }

@@ -14,7 +14,8 @@ use lib.Seq.{set-get_or, drop-cons}
 use Rattle.laws.proofs.Logic.{by_test, either}
 use Rattle.frame.specs.Limits.{thread_count, lock_count, variable_count, deepest, most_held}
 use Rattle.frame.specs.Frame.{decode_parts, decode_word}
-use Rattle.soundness.specs.Soundness.{State, state_of, stepped, step_action, step_decoded, check_from}
+use Rattle.soundness.specs.Soundness.{state_of, stepped, step_action, step_decoded, check_from}
+use Rattle.soundness.specs.declared.State.{State}
 use Rattle.soundness.specs.declared.Level.{Level}
 use Rattle.soundness.specs.declared.Level.TheVariants.{Outer, Inner}
 use Rattle.quick.specs.Quick.{picked, object_end, held_end, owner_after, PassedTo}

@@ -2,7 +2,8 @@
 use Rattle.std.specs.Prelude.{ℕ, ◌+◌, ◌≤◌, ◌≡◌, Bool, true, false, cond, List, eqb, leb, length, drop, Ok}
 use Rattle.frame.specs.Frame.{decode_word}
 use Rattle.frame.specs.Limits.{lock_count, variable_count, most_held}
-use Rattle.soundness.specs.Soundness.{State, stepped, step_decoded, check_from}
+use Rattle.soundness.specs.Soundness.{stepped, step_decoded, check_from}
+use Rattle.soundness.specs.declared.State.{State}
 use Rattle.soundness.specs.declared.Level.{Level}
 
 -- A number where n is k, and another for all others.

@@ -15,7 +15,8 @@ use Rattle.frame.specs.declared.Frame.{Frame}
 use Rattle.frame.specs.declared.Action.{Action}
 use Rattle.frame.specs.declared.Action.TheVariants as action
 use Rattle.frame.specs.declared.Refusal.TheVariants as refusal
-use Rattle.soundness.specs.Soundness.{State, state_of, owner_of, count_of, with_count, with_owner, Stepped, stepped, step_action, step_frame}
+use Rattle.soundness.specs.Soundness.{state_of, owner_of, count_of, with_count, with_owner, Stepped, stepped, step_action, step_frame}
+use Rattle.soundness.specs.declared.State.{State}
 use Rattle.soundness.specs.declared.Level.{Level}
 use Rattle.soundness.specs.declared.Level.TheVariants.{Outer, Inner}
 use Rattle.rules.specs.Figures.{Acts, act_read, act_write, act_acquire, act_release, act_reentrant_acquire, act_reentrant_release, act_other_begin, act_other_end, BelowLimit, SoundnessIsOfTheRules}

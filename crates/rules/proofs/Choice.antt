@@ -30,7 +30,8 @@ use Rattle.guards.specs.declared.Guard.{Guard}
 use Rattle.guards.specs.declared.Guard.TheVariants as guard
 use Rattle.reply.specs.Reply.{refused, reducible, violated, Verdict}
 use Rattle.reply.specs.declared.Violation.{Violation}
-use Rattle.soundness.specs.Soundness.{State, step_frame, level_of, start}
+use Rattle.soundness.specs.Soundness.{step_frame, level_of, start}
+use Rattle.soundness.specs.declared.State.{State}
 use Rattle.soundness.specs.declared.Level.{Level}
 use Rattle.soundness.specs.declared.Level.TheVariants as level
 use Rattle.instrumented.specs.Rules.{Phase, outside, before, after, Judging, judging_of, Judged, judged, phase_at, contains, with_commit, committed, acquire_in, unprotected_in, judge_operation}
@@ -331,7 +332,7 @@ module _ (guards : List ℕ) (i : ℕ) (s : State) (j : Judging) (w : ℕ) (ws :
     where
       judge_case : (f : Frame) → decode_word w ≡ Ok f → (x : Level) → (step_frame f s).outcome ≡ Ok x
           → (v : Verdict) → (judge_frame guards i f s j).verdict ≡ v → Goes guards i s j w
-      judge_case f e x g (Ok tt) a = record { frame = f; is = e; level = x; sound = g; right = a }
+      judge_case f e x g (Ok _) a = record { frame = f; is = e; level = x; sound = g; right = a }
       judge_case f e x g (Err v) a = let z : violated v ≡ reducible = rw (e, a, g) at r in never (cc)
 
       step_case : (f : Frame) → decode_word w ≡ Ok f → (o : Result Level Refusal) → (step_frame f s).outcome ≡ o → Goes guards i s j w

@@ -17,7 +17,8 @@ use Rattle.frame.specs.declared.Lock.{Lock}
 use Rattle.frame.specs.declared.Refusal.TheVariants as refusal
 use Rattle.frame.proofs.Laws.{decoded_in_range}
 use Rattle.laws.proofs.Lists.{get_or_set, get_or_filled}
-use Rattle.soundness.specs.Soundness.{State, owner_of, count_of, with_count, with_owner, nested, Stepped, stepped, step_action, check_from, start}
+use Rattle.soundness.specs.Soundness.{owner_of, count_of, with_count, with_owner, nested, Stepped, stepped, step_action, check_from, start}
+use Rattle.soundness.specs.declared.State.{State}
 use Rattle.soundness.specs.declared.Level.{Level}
 use Rattle.soundness.proofs.Laws.{check_short, sound_fits, sound_first, spared, Acquired, took, took_again, acquired, Released, freed, let_go, released}
 use Rattle.rules.specs.Figures.{LocksAreCounted}

@@ -13,7 +13,7 @@ use native.Mathlib.Numerals.{add-one}
 use borrow.Author.Tests.{eq-eqb, ne_eqb, le-ltb, le-leb, lt-leb}
 use lib.Dec.{eqb, leb}
 use lib.ListN.{get_or, drop, length-replicate, get_or-replicate}
-use Rattle.guards.specs.declared.Judgement.TheVariants.{Declared}
+use Rattle.guards.specs.Judgement.{Declared}
 use Rattle.verdict.specs.Verdict.{verdict_under, with_table, inferred_reply}
 use Rattle.turn.specs.Turn.{judge_frame}
 use Rattle.pass.specs.Pass.{Ended, full_sets, judge_from, start_judging, judgement}
@@ -28,7 +28,8 @@ use Rattle.guards.specs.Guards.{guard_of, guards_read, listed_guard, inferred_co
 use Rattle.guards.proofs.Named.{listed_guard_lem}
 use Rattle.guards.specs.declared.Guard.{Guard}
 use Rattle.guards.specs.declared.Guard.TheVariants.{Locked, Unprotected, Inferred}
-use Rattle.soundness.specs.Soundness.{State, owner_of, count_of, check_from, check_reply, start}
+use Rattle.soundness.specs.Soundness.{owner_of, count_of, check_from, check_reply, start}
+use Rattle.soundness.specs.declared.State.{State}
 use Rattle.soundness.proofs.Laws.{check_short, sound_fits, First, sound_first}
 use Rattle.reply.specs.Reply.{reducible, violated, Reply}
 use Rattle.reply.specs.declared.Kind.{Kind}
@@ -46,35 +47,35 @@ use Rattle.rules.proofs.Told.{Told, goes, wrong, frame_told}
 use Rattle.frame.specs.declared.Refusal.{Refusal}
 
 -- What the rules make of an operation.
-pub data Result : Type 0 where
-  to : Store → Result
-  amiss : Kind → Result
+pub data Outcome : Type 0 where
+  to : Store → Outcome
+  amiss : Kind → Outcome
 
 module _ (P : ℕ → Guard) (s : State) (φ : Store) (t : ℕ) where
   -- the rules of an acquire, of a release and of an access to an unprotected variable, by the stage
-  abbrev acquire_rule : Stage → Result
+  abbrev acquire_rule : Stage → Outcome
   acquire_rule Outside = to φ
   acquire_rule PreCommit = to φ
   acquire_rule PostCommit = amiss AcquireAfterCommit
 
-  abbrev release_rule : Stage → Result
+  abbrev release_rule : Stage → Outcome
   release_rule Outside = to φ
   release_rule PreCommit = to (put_stage φ t PostCommit)
   release_rule PostCommit = to (put_stage φ t PostCommit)
 
-  abbrev race_rule : Stage → Result
+  abbrev race_rule : Stage → Outcome
   race_rule Outside = to φ
   race_rule PreCommit = to (put_stage φ t PostCommit)
   race_rule PostCommit = amiss UnprotectedAfterCommit
 
   -- of an access, by the guard
-  abbrev access_rule : Variable → Guard → Result
+  abbrev access_rule : Variable → Guard → Outcome
   access_rule x (Locked m) = cond (eqb (owner_of m s) (t + 1)) (to φ) (amiss GuardNotHeld)
   access_rule x Unprotected = race_rule (φ.stage t)
   access_rule x Inferred = cond (eqb (shared P s φ t x) 0) (amiss SetEmptied) (to (put_locks φ x.0 (shared P s φ t x)))
 
   -- of any action
-  abbrev pub rule : Action → Result
+  abbrev pub rule : Action → Outcome
   rule (action.Acquire m) = cond (eqb (owner_of m s) (t + 1)) (to φ) (acquire_rule (φ.stage t))
   rule (action.Release m) = cond (leb (count_of m s) 1) (release_rule (φ.stage t)) (to φ)
   rule (action.Read x) = access_rule x (P x.0)
@@ -130,7 +131,7 @@ abbrev onward : Answer → Answer
 onward fine = fine
 onward (first i k) = first (suc i) k
 
-abbrev on_result : Result → (Store → Answer) → Answer
+abbrev on_result : Outcome → (Store → Answer) → Answer
 on_result (to φ) rest = onward (rest φ)
 on_result (amiss k) rest = first 0 k
 

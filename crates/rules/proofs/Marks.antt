@@ -15,7 +15,8 @@ use Rattle.frame.specs.Frame.{decode_word}
 use Rattle.frame.specs.declared.Frame.{Frame}
 use Rattle.frame.specs.declared.Thread.{Thread}
 use Rattle.guards.specs.declared.Guard.{Guard}
-use Rattle.soundness.specs.Soundness.{State, start}
+use Rattle.soundness.specs.Soundness.{start}
+use Rattle.soundness.specs.declared.State.{State}
 use Rattle.instrumented.specs.Rules.{Judging, phase_at, committed, begin_mark, commit_mark}
 use Rattle.laws.proofs.Logic.{never, by_test}
 use Rattle.laws.proofs.Lists.{get_or_set}

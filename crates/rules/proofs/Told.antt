@@ -26,7 +26,8 @@ use Rattle.guards.specs.declared.Guard.{Guard}
 use Rattle.guards.specs.declared.Guard.TheVariants as guard
 use Rattle.reply.specs.declared.Kind.{Kind}
 use Rattle.reply.specs.declared.Kind.TheVariants.{GuardNotHeld, UnprotectedAfterCommit, AcquireAfterCommit, SetEmptied}
-use Rattle.soundness.specs.Soundness.{State, owner_of, count_of, nested, Stepped, stepped, step_action, step_frame}
+use Rattle.soundness.specs.Soundness.{owner_of, count_of, nested, Stepped, stepped, step_action, step_frame}
+use Rattle.soundness.specs.declared.State.{State}
 use Rattle.soundness.specs.declared.Level.{Level}
 use Rattle.soundness.proofs.Laws.{spared, Acquired, took, took_again, acquired, Released, freed, let_go, released}
 use Rattle.instrumented.specs.Rules.{Judging, judging_of, Judged, judged, phase_at, violation, contains, committed, with_commit, acquire_in, unprotected_in, judge_operation}

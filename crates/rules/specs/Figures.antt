@@ -7,7 +7,7 @@
 -- Quotes are from docs/FORMAT.md, but for those of the paper's sections 2.2 and 4.3 and figures.
 use Rattle.std.specs.Prelude.{ℕ, suc, ◌+◌, ◌-◌, ◌^◌, ◌≤◌, ◌<◌, ◌≡◌, cond, ◌↔◌, ◌⊎◌, List, [], ◌∷◌, eqb, get_or, set, Ok, Err, Option, Some, None}
 use Rattle.std.specs.Int.Bits.{bit_and}
-use Rattle.guards.specs.declared.Judgement.TheVariants.{Declared}
+use Rattle.guards.specs.Judgement.{Declared}
 use Rattle.frame.specs.Limits.{lock_count, variable_count, deepest, most_held}
 use Rattle.frame.specs.Frame.{decode_word}
 use Rattle.frame.specs.declared.Lock.{Lock}
@@ -19,7 +19,8 @@ use Rattle.frame.specs.declared.Refusal.TheVariants as refusal
 use Rattle.guards.specs.Guards.{guard_of, guards_read, listed_guard}
 use Rattle.guards.specs.declared.Guard.{Guard}
 use Rattle.guards.specs.declared.Guard.TheVariants.{Locked, Unprotected, Inferred}
-use Rattle.soundness.specs.Soundness.{State, state_of, owner_of, count_of, with_count, with_owner, stepped, step_frame, check_from, check_reply, start}
+use Rattle.soundness.specs.Soundness.{state_of, owner_of, count_of, with_count, with_owner, stepped, step_frame, check_from, check_reply, start}
+use Rattle.soundness.specs.declared.State.{State}
 use Rattle.soundness.specs.declared.Level.{Level}
 use Rattle.reply.specs.Reply.{reducible, violated, Reply, Verdict}
 use Rattle.reply.specs.declared.Kind.{Kind}

@@ -5,7 +5,8 @@ use Rattle.std.specs.Prelude.{ℕ, zero, suc, ◌+◌, ◌≤◌, ◌<◌, ◌�
 use Rattle.frame.specs.Frame.{decode_word}
 use Rattle.frame.specs.declared.Thread.{Thread}
 use Rattle.frame.specs.declared.Frame.{Frame}
-use Rattle.soundness.specs.Soundness.{State, nest, step_frame, check_from, start}
+use Rattle.soundness.specs.Soundness.{nest, step_frame, check_from, start}
+use Rattle.soundness.specs.declared.State.{State}
 use Rattle.instrumented.specs.Rules.{Phase, outside, before, after, Judging, phase_at}
 use Rattle.turn.specs.Turn.{judge_frame}
 use Rattle.pass.specs.Pass.{start_judging, full_sets}

@@ -14,7 +14,8 @@ use borrow.Author.Tests.{le-ltb, ltb-false, leb-true, leb-false, eqb-true}
 use Rattle.frame.specs.Refusal.{refused_at}
 use Rattle.frame.specs.Limits.{most_frames, most_held}
 use Rattle.laws.proofs.Logic.{never}
-use Rattle.frame.specs.Frame.{decode_word}
+use Rattle.frame.specs.Frame.{decode_word, frame_at}
+use Rattle.frame.proofs.Laws.{at_err}
 use Rattle.frame.specs.declared.Frame.{Frame}
 use Rattle.frame.specs.declared.Lock.{Lock}
 use Rattle.frame.specs.declared.Action.TheVariants.{Acquire, Release}
@@ -23,7 +24,8 @@ use Rattle.frame.specs.declared.Refusal.{Refusal}
 use Rattle.frame.specs.declared.Refusal.TheVariants as refusal
 use Rattle.soundness.specs.declared.Level.{Level}
 use Rattle.soundness.specs.declared.Level.TheVariants.{Outer, Inner}
-use Rattle.soundness.specs.Soundness.{State, owner_of, count_of, with_count, with_owner, Stepped, stepped, step_action, step_frame, step_decoded, on_outcome, checked, Checked, check_from, check_reply, start}
+use Rattle.soundness.specs.Soundness.{owner_of, count_of, with_count, with_owner, Stepped, stepped, step_action, step_frame, step_decoded, on_outcome, checked, Checked, check_from, check_reply, start}
+use Rattle.soundness.specs.declared.State.{State}
 
 pub check_short : (ws : List ℕ) → length ws ≤ most_frames → check_reply ws ≡ (check_from 0 start ws).reply
 check_short ws h = rw (le-ltb most_frames (length ws) h)
@@ -42,6 +44,10 @@ module _ (ws : List ℕ) (i : ℕ) (s : State) where
     -- the word does not decode
     pub check_bad : (r : Refusal) → decode_word (get_or ws i 0) ≡ Err r → check_from i s (drop i ws) ≡ checked (Err (refused_at r i)) s
     check_bad r e = opened ∙ rw e
+
+    -- the same of the frame at that place
+    pub check_refused : {x : Refused} → frame_at ws i ≡ Err x → check_from i s (drop i ws) ≡ checked (Err x) s
+    check_refused e = let b = at_err ws i e in check_bad b.0 b.1 ∙ ap (λ (y : Refused). checked (Err y) s) (sym b.2)
 
     module _ (f : Frame) (n : State) (e : decode_word (get_or ws i 0) ≡ Ok f) where
       -- the frame is refused
@@ -156,7 +162,7 @@ module _ (t : ℕ) (l : Lock) (s : State) where
 
 -- the place of a refusal, 0 of none
 abbrev place_of : Result Unit Refused → ℕ
-place_of (Ok tt) = 0
+place_of (Ok _) = 0
 place_of (Err r) = r.place
 
 outcome_place : (o : Result Level Refusal) (s : State) (i m : ℕ) (rest : State → Checked) → i ≤ m → ((n : State) → place_of (rest n).reply ≤ m)

@@ -11,17 +11,13 @@ use Rattle.frame.specs.declared.Lock.{Lock}
 use Rattle.frame.specs.declared.Frame.{Frame}
 use Rattle.frame.specs.declared.Refusal.{Refusal}
 use Rattle.frame.specs.declared.Refusal.TheVariants as refusal
+use Rattle.soundness.specs.declared.State.{State}
 use Rattle.soundness.specs.declared.Level.{Level}
 use Rattle.soundness.specs.declared.Level.TheVariants.{Outer, Inner}
 use Rattle.frame.specs.declared.Refused.{Refused}
 
 -- "A lock is free, or has an owner, the thread that holds it, and a count of how often it is held": the owner of each lock, 0 for none and else
 -- a thread's number plus 1, and its count, 0 for a free lock; the depth of each thread, its begins less its ends.
-pub record State : Type 0 where
-  pub owners : List ℕ
-  pub counts : List ℕ
-  pub depths : List ℕ
-
 abbrev pub state_of : List ℕ → List ℕ → List ℕ → State
 state_of o c d = record { owners = o; counts = c; depths = d }
 
@@ -118,8 +114,3 @@ check_reply ws = cond (ltb most_frames (length ws)) (Err (refused_at refusal.Too
 abbrev pub level_of : Result Level Refusal → Level
 level_of (Ok x) = x
 level_of (Err r) = Outer
-
--- The refusal of a frame that does not pass (asked of no other).
-abbrev pub outcome_refusal : Result Level Refusal → Refusal
-outcome_refusal (Ok x) = refusal.LockTaken
-outcome_refusal (Err r) = r

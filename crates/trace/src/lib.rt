@@ -6,7 +6,7 @@
 ghost use Rattle.std.specs.Prelude.{◌≡◌, length};
 ghost use Rattle.text.specs.Text.{read_reply, read_words};
 ghost use Rattle.guards.specs.Guards.{guards_read};
-ghost use Rattle.guards.specs.declared.Judgement.TheVariants.{Declared};
+ghost use Rattle.guards.specs.Judgement.{Declared};
 ghost use Rattle.verdict.specs.Verdict.{verdict_under, inferred_reply};
 ghost use Rattle.trace.specs.Trace.{read_answer, guards_answer, kind_answer, line_after, sets_after};
 ghost use Rattle.answer.specs.Answer.{text_judged};

@@ -5,7 +5,7 @@
 
 ghost use Rattle.std.specs.Prelude.{◌≡◌, [], length};
 ghost use Rattle.equal.specs.Equal.{equal_reply};
-ghost use Rattle.guards.specs.declared.Judgement.TheVariants.{Declared, Inferred};
+ghost use Rattle.guards.specs.Judgement.{Declared, Inferred};
 ghost use Rattle.order.specs.Order.{order_under, out_under};
 ghost use Rattle.moves.specs.Moves.{moves_under, moves_out_under};
 ghost use Rattle.unitcommits.specs.UnitCommits.{commits_under, commits_out_under};

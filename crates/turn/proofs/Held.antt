@@ -16,7 +16,8 @@ use Rattle.frame.specs.declared.Action.TheVariants as action
 use Rattle.frame.specs.declared.Lock.{Lock}
 use Rattle.frame.specs.declared.Refusal.{Refusal}
 use Rattle.frame.specs.declared.Refusal.TheVariants as refusal
-use Rattle.soundness.specs.Soundness.{State, state_of, nested, Stepped, stepped, step_action, step_frame}
+use Rattle.soundness.specs.Soundness.{state_of, nested, Stepped, stepped, step_action, step_frame}
+use Rattle.soundness.specs.declared.State.{State}
 use Rattle.soundness.proofs.Laws.{spared, Acquired, took, took_again, acquired, Released, freed, let_go, released}
 use Rattle.soundness.specs.declared.Level.{Level}
 use Rattle.reply.specs.Reply.{Verdict}
@@ -100,23 +101,19 @@ none_held = record {
   are = λ t h. get_or-replicate thread_count t 0 0 h ∙ sym (held_none t lock_count);
 }
 
--- One frame, in the arrays' terms.
-module _ (guards counts depths : List ℕ) {owners hs : List ℕ} (fs : Follows hs owners) {f : Frame} (r : InRange f) where
-  -- the locks and depths before the frame
-  abbrev here : State
-  here = state_of owners counts depths
-
-  module _ {x : Level} {n : State} (g : step_frame f here ≡ stepped (Ok x) n) where
+-- One frame, with the locks and depths s before it.
+module _ (guards : List ℕ) (s : State) {hs : List ℕ} (fs : Follows hs s.owners) {f : Frame} (r : InRange f) where
+  module _ {x : Level} {n : State} (g : step_frame f s ≡ stepped (Ok x) n) where
     pub frame_held : Held guards hs f.thread.0 x f.action n
-    frame_held = held_step guards hs f.thread.0 here r.thread fs f.action r.object g
+    frame_held = held_step guards hs f.thread.0 s r.thread fs f.action r.object g
 
     -- a frame that passes is judged
     pub turn_judged : (i : ℕ) (j : Judging) {o : Operation} {v : Verdict} {k : Judging} → o ≡ operation_of guards x f.action
-        → judge_operation i f.thread (get_or depths f.thread.0 0) (get_or hs f.thread.0 0) o j ≡ judged v k
-        → turned guards i f here j ≡ by_verdict v n k
+        → judge_operation i f.thread (get_or s.depths f.thread.0 0) (get_or hs f.thread.0 0) o j ≡ judged v k
+        → turned guards i f s j ≡ by_verdict v n k
     turn_judged i j oe a = let q = rw (fs.are f.thread.0 r.thread, oe) at a in rw (g, q)
 
   -- one that does not is refused
-  pub turn_refused : (i : ℕ) (j : Judging) {n : State} {b : Refusal} → step_frame f here ≡ stepped (Err b) n
-      → turned guards i f here j ≡ turned_to (Err (stop.Refused b)) n j
+  pub turn_refused : (i : ℕ) (j : Judging) {n : State} {b : Refusal} → step_frame f s ≡ stepped (Err b) n
+      → turned guards i f s j ≡ turned_to (Err (stop.Refused b)) n j
   turn_refused i j g = rw g

@@ -4,13 +4,15 @@
 
 ghost use Rattle.std.specs.Prelude.{◌≡◌, ◌<◌};
 ghost use Rattle.frame.specs.Frame.{InRange};
-ghost use Rattle.soundness.specs.Soundness.{state_of};
 ghost use Rattle.instrumented.specs.Rules.{judging_of};
 ghost use Rattle.instrumented.specs.Held.{Follows};
 ghost use Rattle.turn.specs.Turn.{turned, turned_to, FollowsAfter};
+ghost use Rattle.turn.specs.declared.Stop.TheVariants.{Refused, Wrong};
 
-use frame::{Frame, LOCKS, Refusal, Refused, THREADS, VARIABLES};
+use frame::{Frame, Refusal, VARIABLES};
+use instrumented::{Step, Threads};
 use reply::Violation;
+use soundness::State;
 
 // Why a pass stops at a frame: the frame is refused, or goes wrong.
 #[derive(Clone, Copy)]
@@ -19,37 +21,50 @@ pub enum Stop {
     Wrong(Violation),
 }
 
-// A frame at place i, with the locks, the depths and the held sets as they are before it, and where the threads stand.
+impl From<Refusal> for Stop {
+    ghost from_gives = { λ reason stop. stop ≡ Refused reason };
+
+    fn from(reason: Refusal) -> Stop {
+        Stop::Refused(reason)
+    }
+}
+
+impl From<Violation> for Stop {
+    ghost from_gives = { λ violation stop. stop ≡ Wrong violation };
+
+    fn from(violation: Violation) -> Stop {
+        Stop::Wrong(violation)
+    }
+}
+
+// A frame at a place, with the locks and depths and where the threads stand as they are before it.
 pub fn judge_frame(
     guards: &[u8; VARIABLES],
-    owners: &mut [u8; LOCKS],
-    counts: &mut [u8; LOCKS],
-    depths: &mut [u8; THREADS],
-    held: &mut [u64; THREADS],
-    begins: &mut [u32; THREADS],
-    commits: &mut [u32; THREADS],
+    state: &mut State,
+    threads: &mut Threads,
     sets: &mut [u64; VARIABLES],
-    i: u32,
-    f: Frame,
+    place: u32,
+    frame: Frame,
 ) -> Result<(), Stop>
-    requires fact_1 { InRange f }
-    requires fact_2 { i < 4294967295 }
-    requires fact_3 { Follows held.old owners.old }
-    ensures rules { turned guards.now i f (state_of owners.old counts.old depths.old) (judging_of begins.old commits.old sets.old) ≡ turned_to result (state_of owners.new counts.new depths.new) (judging_of begins.new commits.new sets.new) }
-    ensures locks { FollowsAfter result held.old held.new owners.new }
+    requires in_range { InRange frame }
+    requires place_in { place < 4294967295 }
+    requires follows { Follows threads.old.held state.old.owners }
+    ensures rules { turned guards.now place frame state.old (judging_of threads.old.begins threads.old.commits sets.old) ≡ turned_to result state.new (judging_of threads.new.begins threads.new.commits sets.new) }
+    ensures locks { FollowsAfter result threads.old.held threads.new.held state.new.owners }
 {
-    let thread = f.thread;
-    let t = thread.0 as usize;
-    let depth = depths[t];
-    let o = soundness::step(owners, counts, depths, f);
-    let Ok(level) = o else {
-        return Err(Stop::Refused(soundness::outcome_refusal(o)));
-    };
-    let a = f.action;
-    let op = operation::operation_of(guards, level, a);
-    let v = judge::judge(held, begins, commits, sets, depth, i, thread, op);
-    match v {
-        Ok(()) => Ok(()),
-        Err(w) => Err(Stop::Wrong(w)),
-    }
+    let thread = frame.thread;
+    let depth = state.depths[thread.0 as usize];
+    let level = state.step(frame)?;
+    let operation = operation::operation_of(guards, level, frame.action);
+    judge::judge(
+        threads,
+        sets,
+        Step {
+            place,
+            thread,
+            depth,
+            operation,
+        },
+    )?;
+    Ok(())
 }

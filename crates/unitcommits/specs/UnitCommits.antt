@@ -2,7 +2,7 @@
 -- Quotes are from docs/FORMAT.md.
 use Rattle.std.specs.Prelude.{ℕ, List, length, Result, Ok, Err}
 use Rattle.guards.specs.Guards.{guards_under}
-use Rattle.guards.specs.declared.Judgement.{Judgement}
+use Rattle.guards.specs.Judgement.{Judgement}
 use Rattle.soundness.specs.Soundness.{check_reply}
 use Rattle.order.specs.Order.{on_list}
 use Rattle.commitplaces.specs.CommitPlaces.{commit_places}

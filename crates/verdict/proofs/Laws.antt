@@ -11,7 +11,7 @@ use Rattle.frame.specs.declared.Refused.{Refused}
 use Rattle.frame.specs.declared.Refusal.TheVariants as refusal
 use Rattle.reply.specs.Reply.{refused, Reply, Verdict}
 use Rattle.guards.specs.Guards.{inferred_guards, guards_under}
-use Rattle.guards.specs.declared.Judgement.{Judgement}
+use Rattle.guards.specs.Judgement.{Judgement}
 use Rattle.pass.proofs.Judgement.{judgement_fits}
 use Rattle.pass.specs.Pass.{full_sets}
 use Rattle.verdict.specs.Verdict.{verdict_under, with_table, inferred_end, inferred_reply, inferred_sets}

@@ -11,7 +11,7 @@ use Rattle.frame.specs.declared.Variable.{Variable}
 use Rattle.frame.specs.declared.Action.{Action}
 use Rattle.frame.specs.declared.Frame.{Frame}
 use Rattle.guards.specs.declared.Guard.{Guard}
-use Rattle.soundness.specs.Soundness.{State}
+use Rattle.soundness.specs.declared.State.{State}
 use Rattle.rules.specs.Figures.{Accesses, reads, writes, Store, AllStep, end, step}
 use Rattle.rules.proofs.Figures.{same_steps}
 use Rattle.verdictlaws.specs.VerdictLaws.{Accessed}

@@ -10,7 +10,7 @@ use Rattle.frame.specs.declared.Frame.{Frame}
 use Rattle.text.specs.Text.{scanned, words_to}
 use Rattle.guards.specs.Guards.{guards_read, listed_guard}
 use Rattle.guards.specs.declared.Guard.TheVariants as guard
-use Rattle.guards.specs.declared.Judgement.TheVariants as judgement
+use Rattle.guards.specs.Judgement as judgement
 use Rattle.soundness.specs.Soundness.{check_reply}
 use Rattle.reply.specs.Reply.{reducible}
 use Rattle.verdict.specs.Verdict.{verdict_under, inferred_reply}

@@ -8,7 +8,7 @@ ghost use Rattle.frame.specs.Limits.{most_frames};
 ghost use Rattle.serial.specs.Walk.{walk_of, walk_words};
 ghost use Rattle.displacement.specs.Displacement.{places, moved};
 
-use frame::{LOCKS, Refused, THREADS, VARIABLES};
+use frame::{Frame, LOCKS, Refused, THREADS, VARIABLES};
 
 // The units of a sound recording, each written where the one before stopped.
 pub fn write_order(words: &[u32], guards: &[u8; VARIABLES], out: &mut [u32]) -> Result<(), Refused>
@@ -24,7 +24,7 @@ pub fn write_order(words: &[u32], guards: &[u8; VARIABLES], out: &mut [u32]) -> 
     let mut at: usize = 0;
     let mut i: usize = 0;
     while i < words.len() {
-        let d = frame::decode(words[i]);
+        let d = Frame::try_from(words[i]);
         let Ok(f) = d else {
             return Err(Refused {
                 reason: frame::refusal_of(d),
@@ -66,7 +66,7 @@ pub fn write_moves(
     let mut k: usize = 0;
     let mut p: usize = 0;
     while p < words.len() {
-        let d = frame::decode(words[p]);
+        let d = Frame::try_from(words[p]);
         let Ok(f) = d else {
             return Err(Refused {
                 reason: frame::refusal_of(d),

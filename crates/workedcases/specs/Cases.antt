@@ -2,7 +2,7 @@
 -- recording under inferred guards goes in as text, as the planner hands it in.
 use Rattle.std.specs.Prelude.{ℕ, ◌≡◌, Bool, true, false, ◌&&◌, List, [], ◌∷◌, ◌++◌, eqb, ℤ, pos, negsuc, neg_ℤ, length, replicate, Option, Result, Ok, Err}
 use Prim.Native.String.{String}
-use Rattle.guards.specs.declared.Judgement.TheVariants.{Declared}
+use Rattle.guards.specs.Judgement.{Declared}
 use Rattle.verdict.specs.Verdict.{verdict_under}
 use Rattle.guards.specs.Guards.{no_guards, inferred_guards}
 use Rattle.equal.specs.Equal.{equal_reply}

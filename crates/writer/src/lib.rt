@@ -16,17 +16,8 @@ fn room(frames: usize, size: usize, place: usize) -> Result<u32, Refused>
     ensures { result ≡ room_reply frames size place }
 {
     let bytes = 9 * frames as u32;
-    if size < place {
-        return Err(Refused {
-            reason: Refusal::TextBuffer,
-            place: bytes,
-        });
-    }
-    if size - place < bytes as usize {
-        return Err(Refused {
-            reason: Refusal::TextBuffer,
-            place: bytes,
-        });
+    if size < place || size - place < bytes as usize {
+        return Err(Refusal::TextBuffer.at(bytes));
     }
     Ok(bytes)
 }
@@ -46,16 +37,8 @@ pub fn write_recording(words: &[u32], text: &mut [u8], place: usize) -> Result<u
     ensures reply { result ≡ write_reply words.now (length text.old) place }
     ensures contents { text.new ≡ text_after (write_reply words.now (length text.old) place) words.now text.old place }
 {
-    let q = quick::check(words);
-    match q {
-        Err(x) => Err(x),
-        Ok(()) => {
-            let r = room(words.len(), text.len(), place);
-            let Ok(_) = r else {
-                return r;
-            };
-            write_lines(words, &mut text[place..]);
-            r
-        }
-    }
+    quick::check(words)?;
+    let bytes = room(words.len(), text.len(), place)?;
+    write_lines(words, &mut text[place..]);
+    Ok(bytes)
 }

@@ -1,26 +1,30 @@
 -- The verdict by what is wrong with the operation, which leaves the state as it was.
 use lib.ListN.{get_or}
+use mathlib.Core.Path.{sym, ◌∙◌}
 use Rattle.instrumented.specs.Rules.{judging_of}
-use Rattle.judge.proofs.Laws.{wrong_at_lem}
+use Rattle.judge.proofs.Laws.{marks, wrong_at_lem}
 use Rattle.judge.proofs.judge.Goals as goal
 
-pub returns-in-None : goal.returns-in-None
-returns-in-None c =
-    let e = c.in-None.is in
+pub returns-in-Ok : goal.returns-in-Ok
+returns-in-Ok c =
+    let e = c.in-Ok.is in
     record {
-      rules = rw e at c.apply-f.ensures.rules;
-      locks = rw e at c.apply-f.ensures.locks;
+      rules = rw e at c.apply.ensures.rules;
+      locks = rw e at c.apply.ensures.locks;
     }
 
-pub returns-in-Wrong : goal.returns-in-Wrong
-returns-in-Wrong c =
+pub returns-in-Err : goal.returns-in-Err
+returns-in-Err c =
     let a = c.args in
-    let p = c.apply-f in
-    let e = c.in-Wrong.is in
-    let j = judging_of a.begins.now a.commits.now a.sets.now in
-    let k = judging_of p.new.begins p.new.commits p.new.sets in
-    let w = wrong_at_lem a.i a.thread a.d (get_or a.held.now a.thread.0 0) a.op j k c.in-Wrong.kind c.in-Wrong.locks (rw e at p.ensures.rules) in
+    let s = a.step in
+    let p = c.apply in
+    let e = c.in-Err.is in
+    let f = c.in-Err.fault in
+    let j = judging_of a.threads.now.begins a.threads.now.commits a.sets.now in
+    let k = judging_of p.new.self.begins p.new.self.commits p.new.sets in
+    let w = wrong_at_lem s.place s.thread s.depth (get_or a.threads.now.held s.thread.0 0) s.operation j k f.kind f.locks (rw e at p.ensures.rules) in
+    let m = marks f.kind s.place s.thread s.depth (get_or k.begins s.thread.0 0) (get_or k.commits s.thread.0 0) f.locks in
     record {
-      rules = rw c.wrong.ensures w;
-      locks = rw c.wrong.ensures (rw e at p.ensures.locks);
+      rules = rw (c.begin_mark.ensures, c.commit_mark.ensures, m) w;
+      locks = rw e at p.ensures.locks;
     }

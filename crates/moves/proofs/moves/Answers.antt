@@ -1,5 +1,5 @@
 use mathlib.Core.Path.{sym, ap, ◌∙◌}
-use Rattle.guards.specs.declared.GuardsRead.{GuardsRead}
+use Rattle.guards.specs.Guards.{GuardsRead}
 use Rattle.order.specs.Order.{reply_under}
 use Rattle.moves.specs.Moves.{moves_out, moves_out_under}
 use Rattle.moves.proofs.moves.Goals as goal

@@ -1,5 +1,5 @@
 use mathlib.Core.Path.{sym, ap, ◌∙◌}
-use Rattle.guards.specs.declared.GuardsRead.{GuardsRead}
+use Rattle.guards.specs.Guards.{GuardsRead}
 use Rattle.order.specs.Order.{reply_under, out_under, order_out}
 use Rattle.order.proofs.order.Goals as goal
 

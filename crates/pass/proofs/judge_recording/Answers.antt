@@ -1,13 +1,15 @@
-use borrow.Author.Tests.{lt-ltb}
+use Rattle.std.proofs.Common.{rules, tests}
 use Rattle.pass.specs.Pass.{judgement, sets_left}
 use Rattle.pass.proofs.judge_recording.Goals as goal
 
-pub returns-then-words-gt-MOST : goal.returns-then-words-gt-MOST
-unfolding judgement sets_left
-returns-then-words-gt-MOST c =
-    let q = lt-ltb _ _ c.if-words-gt-MOST.true in
-    record {
-      reply = simp (c.refused.ensures, q);
-      unclosed = simp (c.refused.ensures, q);
-      contents = simp q;
-    }
+pub returns-then-words-gt-MOST-clause-reply : goal.returns-then-words-gt-MOST-clause-reply
+unfolding judgement
+returns-then-words-gt-MOST-clause-reply c = search (rules, tests)
+
+pub returns-then-words-gt-MOST-clause-unclosed : goal.returns-then-words-gt-MOST-clause-unclosed
+unfolding judgement
+returns-then-words-gt-MOST-clause-unclosed c = search (rules, tests)
+
+pub returns-then-words-gt-MOST-clause-contents : goal.returns-then-words-gt-MOST-clause-contents
+unfolding sets_left
+returns-then-words-gt-MOST-clause-contents c = search (rules, tests)

@@ -2,7 +2,7 @@ use Rattle.std.specs.Prelude.{Ok}
 use mathlib.Core.Path.{sym, ◌∙◌}
 use lib.ListN.{length}
 use borrow.Author.Tests.{lt-ltb, le-ltb}
-use Rattle.guards.specs.declared.Judgement.TheVariants.{Declared}
+use Rattle.guards.specs.Judgement.{Declared}
 use Rattle.verdict.proofs.Laws.{verdict_fits}
 use Rattle.trace.proofs.Laws.{frames_whole}
 use Rattle.trace.proofs.trace_declared.Goals as goal

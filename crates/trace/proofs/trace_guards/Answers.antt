@@ -1,5 +1,5 @@
 use mathlib.Core.Path.{sym, ap, ◌∙◌}
-use Rattle.guards.specs.declared.GuardsRead.{GuardsRead}
+use Rattle.guards.specs.Guards.{GuardsRead}
 use Rattle.trace.proofs.trace_guards.Goals as goal
 
 pub returns-in-Ok : goal.returns-in-Ok

@@ -1,6 +1,6 @@
 -- The refusal of the list, or the commits under its table.
 use mathlib.Core.Path.{sym, ap, ◌∙◌}
-use Rattle.guards.specs.declared.GuardsRead.{GuardsRead}
+use Rattle.guards.specs.Guards.{GuardsRead}
 use Rattle.unitcommits.specs.UnitCommits.{commits_under, commits_out_under}
 use Rattle.unitcommits.proofs.commits.Goals as goal
 

@@ -1,8 +1,0 @@
-use borrow.Author.Tests.{eq-eqb, ne_eqb}
-use Rattle.judge.proofs.begin_mark.Goals as goal
-
-pub returns-then-d-eq0 : goal.returns-then-d-eq0
-returns-then-d-eq0 c = simp (eq-eqb _ _ c.if-d-eq0.true)
-
-pub returns : goal.returns
-returns c = simp (ne_eqb _ _ c.if-d-eq0.false)
