@@ -62,7 +62,9 @@ impl Lasts {
     }
 }
 
-// The first place, `from` or later, of a frame of a thread.
+// The first place, `from` or later, of a frame of a thread. Not inlined, since the loop is then shorter: what is done with the word found
+// would have it load whole words.
+#[inline(never)]
 pub fn find(words: &[u32], from: usize, thread: Thread) -> Option<usize>
     requires sound { check_reply words.now ≡ (Ok tt) }
     requires within { from ≤ length words.now }
