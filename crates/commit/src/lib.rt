@@ -5,135 +5,94 @@
 ghost use Rattle.std.specs.Prelude.{◌≡◌, ◌<◌};
 ghost use Rattle.frame.specs.Frame.{InRange, ObjectInRange};
 ghost use Rattle.soundness.specs.Soundness.{nest};
-ghost use Rattle.commit.specs.Commit.{Raisable, tables_of, counted, committing, start_in, committed_after, settles, unit_committed, visited, unit_start};
+ghost use Rattle.commit.specs.Commit.{Raisable, counted, committing, start_units, visited, unit_start};
 
-use frame::{Action, Frame, LOCKS, THREADS, VARIABLES};
+use frame::{Action, Frame, LOCKS, Lock, THREADS, VARIABLES, Variable};
 use guards::UNPROTECTED;
 
+// The units between two frames: how often each lock is held, and of each thread the depth, the place where its unit started, and whether that
+// unit has committed.
+#[derive(Drop)]
+pub struct Units {
+    pub counts: [u32; LOCKS],
+    pub depths: [u32; THREADS],
+    pub starts: [u32; THREADS],
+    pub committed: [bool; THREADS],
+}
+
 // An acquire or a release is counted. Whether the action commits the block that it stands in.
-fn count(guards: &[u8; VARIABLES], counts: &mut [u32; LOCKS], a: Action) -> bool
-    requires fact_1 { ObjectInRange a }
-    requires fact_2 { Raisable counts.old }
-    ensures commits { result ≡ committing guards.now counts.old a }
-    ensures contents { counts.new ≡ counted a counts.old }
+fn count(guards: &[u8; VARIABLES], counts: &mut [u32; LOCKS], action: Action) -> bool
+    requires object_in { ObjectInRange action }
+    requires raisable { Raisable counts.old }
+    ensures commits { result ≡ committing guards.now counts.old action }
+    ensures contents { counts.new ≡ counted action counts.old }
 {
-    match a {
-        Action::Acquire(l) => {
-            let k = l.0 as usize;
-            counts[k] = counts[k] + 1;
+    match action {
+        Action::Acquire(Lock(lock)) => {
+            counts[usize::from(lock)] += 1;
             false
         }
-        Action::Release(l) => {
-            let k = l.0 as usize;
-            let n = counts[k];
-            if 1 < n {
-                counts[k] = n - 1;
-                return false;
-            }
-            counts[k] = 0;
-            true
+        Action::Release(Lock(lock)) => {
+            let l = usize::from(lock);
+            let held = counts[l];
+            counts[l] = held.saturating_sub(1);
+            held <= 1
         }
-        Action::Read(v) => guards[v.0 as usize] == UNPROTECTED,
-        Action::Write(v) => guards[v.0 as usize] == UNPROTECTED,
-        Action::Begin => false,
-        Action::End => false,
+        Action::Read(Variable(v)) | Action::Write(Variable(v)) => {
+            guards[usize::from(v)] == UNPROTECTED
+        }
+        Action::Begin | Action::End => false,
     }
 }
 
 // The depth of a thread after its action.
-fn depth_after(a: Action, d: u32) -> u32
-    requires { d < 4294967295 }
-    ensures { result ≡ nest d a }
+fn depth_after(action: Action, depth: u32) -> u32
+    requires { depth < 4294967295 }
+    ensures { result ≡ nest depth action }
 {
-    match a {
-        Action::Acquire(_) => d,
-        Action::Release(_) => d,
-        Action::Read(_) => d,
-        Action::Write(_) => d,
-        Action::Begin => d + 1,
-        Action::End => {
-            if d == 0 {
-                return 0;
-            }
-            d - 1
+    match action {
+        Action::Begin => depth + 1,
+        Action::End => depth.saturating_sub(1),
+        _ => depth,
+    }
+}
+
+impl Units {
+    // No lock is held, and no block is open.
+    #[tactic(auto, unfolding(crate::specs::Commit::start_units))]
+    pub fn new() -> Units
+        ensures { result ≡ start_units }
+    {
+        Units {
+            counts: [0; LOCKS],
+            depths: [0; THREADS],
+            starts: [0; THREADS],
+            committed: [false; THREADS],
         }
     }
-}
 
-// Where the unit of a thread started that is at depth d before its frame at place i.
-fn start_in(d: u32, i: u32, before: u32) -> u32
-    ensures { result ≡ start_in d i before }
-{
-    if d == 0 {
-        return i;
+    // A frame at a place. The start of the unit that the frame commits.
+    #[tactic(auto, unfolding(crate::specs::Commit::visited, crate::specs::Commit::unit_start))]
+    pub fn visit(&mut self, guards: &[u8; VARIABLES], place: u32, frame: Frame) -> Option<u32>
+        requires in_range { InRange frame }
+        requires counts_raisable { Raisable self.old.counts }
+        requires depths_raisable { Raisable self.old.depths }
+        ensures start { result ≡ unit_start guards.now place frame self.old }
+        ensures units { self.new ≡ visited guards.now place frame self.old }
+    {
+        let t = usize::from(frame.thread.0);
+        let depth = self.depths[t];
+        let after = depth_after(frame.action, depth);
+        let commits = count(guards, &mut self.counts, frame.action);
+        let committed = self.committed[t];
+        let start = if depth == 0 { place } else { self.starts[t] };
+        self.depths[t] = after;
+        self.starts[t] = start;
+        self.committed[t] = after != 0 && (commits || committed);
+        if !committed && (commits || after == 0) {
+            Some(start)
+        } else {
+            None
+        }
     }
-    before
-}
-
-// Whether a thread's unit has committed, after a frame that leaves the thread at depth d.
-fn committed_after(commits: bool, d: u32, done: u8) -> u8
-    ensures { result ≡ committed_after commits d done }
-{
-    if d == 0 {
-        return 0;
-    }
-    if commits {
-        return 1;
-    }
-    done
-}
-
-// Whether a frame that leaves its thread at depth d is one by which a unit commits, if it has not.
-fn is_settled(commits: bool, d: u32) -> bool
-    ensures { result ≡ settles commits d }
-{
-    if commits {
-        return true;
-    }
-    d == 0
-}
-
-// The unit that a frame commits, by its start.
-fn unit_committed(settled: bool, done: u8, start: u32) -> Option<u32>
-    ensures { result ≡ unit_committed settled done start }
-{
-    if done != 0 {
-        return None;
-    }
-    if settled {
-        return Some(start);
-    }
-    None
-}
-
-// A frame at place i, with how often each lock is held, and of each thread the depth, where its unit started, and whether that has committed.
-// The start of the unit that the frame commits.
-pub fn visit(
-    guards: &[u8; VARIABLES],
-    counts: &mut [u32; LOCKS],
-    depths: &mut [u32; THREADS],
-    starts: &mut [u32; THREADS],
-    committed: &mut [u8; THREADS],
-    i: u32,
-    f: Frame,
-) -> Option<u32>
-    requires fact_1 { InRange f }
-    requires fact_2 { Raisable counts.old }
-    requires fact_3 { Raisable depths.old }
-    ensures start { result ≡ unit_start guards.now i f (tables_of counts.old depths.old starts.old committed.old) }
-    ensures tables { tables_of counts.new depths.new starts.new committed.new ≡ visited guards.now i f (tables_of counts.old depths.old starts.old committed.old) }
-{
-    let thread = f.thread;
-    let t = thread.0 as usize;
-    let a = f.action;
-    let d = depths[t];
-    let done = committed[t];
-    let start = start_in(d, i, starts[t]);
-    let commits = count(guards, counts, a);
-    let depth = depth_after(a, d);
-    depths[t] = depth;
-    starts[t] = start;
-    committed[t] = committed_after(commits, depth, done);
-    let settled = is_settled(commits, depth);
-    unit_committed(settled, done, start)
 }

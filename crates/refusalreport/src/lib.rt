@@ -6,7 +6,7 @@ ghost use Rattle.std.specs.Prelude.{◌≡◌, length};
 ghost use Rattle.output.specs.Output.{Appended, behind, written};
 ghost use Rattle.refusalreport.specs.RefusalReport.{numbered_text, refusal_report};
 
-use frame::{Refusal, UnknownRefusal};
+use frame::Refusal;
 use output::Text;
 use phrase::Source;
 
@@ -23,7 +23,7 @@ fn say_numbered(
 {
     match Refusal::try_from(number) {
         Ok(reason) => linefault::explain_refused(out, source, text, words, reason.at(place)),
-        Err(UnknownRefusal(0)) => {}
+        Err(_) if number == 0 => {}
         Err(_) => linereport::put_other(out, number as u64, place as u64),
     }
 }
