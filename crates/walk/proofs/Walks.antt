@@ -14,7 +14,7 @@ use Rattle.frame.specs.declared.Action.{Action}
 use Rattle.frame.specs.declared.Action.TheVariants as action
 use Rattle.frame.specs.declared.Frame.{Frame}
 use Rattle.soundness.specs.Soundness.{nest}
-use Rattle.commit.specs.Commit.{start_units, counted, Raisable, visited, unit_start}
+use Rattle.commit.specs.Commit.{start_units, counted, visited, unit_start}
 use Rattle.commit.specs.declared.Units.{Units}
 use Rattle.serial.specs.Walk.{unit_in, walk_from, walk_of}
 use Rattle.displacement.specs.Displacement.{places}
@@ -32,9 +32,6 @@ nest_low d action.End = omega arith
 -- every entry is at most n
 abbrev Low : ℕ → List ℕ → Type 0
 Low n l = (m : ℕ) → get_or l m 0 ≤ n
-
-raise_low : (n : ℕ) (l : List ℕ) → n < 4294967295 → Low n l → Raisable l
-raise_low n l h b m = omega (arith, b m)
 
 -- a store of at most one more
 low_set : (n : ℕ) (l : List ℕ) (k x : ℕ) → x ≤ n + 1 → Low n l → Low (n + 1) (set l k x)
@@ -61,13 +58,6 @@ stands_first words = record {
   counts_low = λ m. omega (arith, get_or_filled lock_count m 0);
   depths_low = λ m. omega (arith, get_or_filled thread_count m 0);
 }
-
-module _ {words : List ℕ} {x : Units} {i : ℕ} (st : Stands words x i) (h : i < length words) (k : length words ≤ most_frames) where
-  pub counts_fit : Raisable x.counts
-  counts_fit = raise_low i x.counts (omega arith) st.counts_low
-
-  pub depths_fit : Raisable x.depths
-  depths_fit = raise_low i x.depths (omega arith) st.depths_low
 
 -- A walk over any element type, at the end and at the frame f of place i, which commits the unit that starts at m.
 module _ {A : Type 0} (guards words : List ℕ) (xs : List A) (i : ℕ) where

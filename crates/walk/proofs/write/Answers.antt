@@ -1,8 +1,8 @@
 use mathlib.Core.Path.{sym, subst, ◌∙◌}
 use native.Mathlib.Omega.{arith}
 use Rattle.frame.proofs.Laws.{at_ok, at_err, decoded_in_range}
-use Rattle.soundness.proofs.Laws.{sound_fits, sound_not_bad}
-use Rattle.walk.proofs.Walks.{walk_begins, walk_ends, counts_fit, depths_fit, unit_within, walk_next, walk_skips}
+use Rattle.soundness.proofs.Laws.{sound_not_bad}
+use Rattle.walk.proofs.Walks.{walk_begins, walk_ends, unit_within, walk_next, walk_skips}
 use Rattle.walk.proofs.write.Goals as goal
 use Rattle.walk.proofs.write.Goals.{in-Some, in_default}
 
@@ -14,15 +14,8 @@ returns-in_err-frame g c =
     let e = at_err c.args.words.now c.loop-place.place (sym c.at.ensures ∙ c.in_err-frame.was) in
     absurd (sound_not_bad c.args.words.now c.requires.sound _ c.loop-place-test.true e.1)
 
-pub visit-requires : goal.visit-requires
-visit-requires g c =
-    let l = c.loop-place in
-    let fits = sound_fits c.args.words.now c.requires.sound in
-    record {
-      in_range = decoded_in_range _ _ (at_ok c.args.words.now l.place (sym c.at.ensures ∙ c.in_ok-frame.was));
-      counts_raisable = counts_fit l.invariant.stands c.loop-place-test.true fits;
-      depths_raisable = depths_fit l.invariant.stands c.loop-place-test.true fits;
-    }
+pub visit-requires-clause-in_range : goal.visit-requires-clause-in_range
+visit-requires-clause-in_range g c = decoded_in_range _ _ (at_ok c.args.words.now c.loop-place.place (sym c.at.ensures ∙ c.in_ok-frame.was))
 
 pub write_unit-order-requires : goal.write_unit-order-requires
 write_unit-order-requires g c =
