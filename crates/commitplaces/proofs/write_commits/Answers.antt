@@ -1,7 +1,10 @@
+use Prim.Native.Nat.{◌≤◌}
 use mathlib.Core.Path.{refl, sym, ◌∙◌}
 use native.Mathlib.Omega.{arith}
 use borrow.Author.Tests.{le-leb}
+use lib.ListN.{length}
 use lib.Seq.{set_out}
+use Rattle.frame.specs.Limits.{most_frames}
 use Rattle.frame.proofs.Laws.{decoded_in_range}
 use Rattle.commitplaces.proofs.Turns.{begins, done, stops, next}
 use Rattle.commitplaces.proofs.write_commits.Goals as goal
@@ -11,7 +14,9 @@ pub loop-i-init : goal.loop-i-init
 loop-i-init c = rw c.new-units.ensures (begins _ _ _)
 
 pub returns-in_default : goal.returns-in_default
-returns-in_default c = rw (le-leb _ _ (omega (arith, c.if-words-gt-MOST.false))) (stops c.loop-i.invariant c.loop-i-test.true (sym c.try_from.ensures ∙ c.in_default.is))
+returns-in_default c =
+    let fits : length c.args.words.now ≤ most_frames = omega (arith, c.if-words-gt-MOST.false) in
+    rw (le-leb _ _ fits) (stops c.loop-i.invariant c.loop-i-test.true (sym c.try_from.ensures ∙ c.in_default.is))
 
 pub visit-requires-clause-in_range : goal.visit-requires-clause-in_range
 visit-requires-clause-in_range c = decoded_in_range _ _ (sym c.try_from.ensures ∙ c.in-Ok.is)
@@ -28,4 +33,6 @@ loop-i-preserved c =
     ]
 
 pub returns : goal.returns
-returns c = rw (le-leb _ _ (omega (arith, c.if-words-gt-MOST.false))) (done c.loop-i.invariant c.loop-i-test.false)
+returns c =
+    let short : length c.args.words.now ≤ most_frames = omega (arith, c.if-words-gt-MOST.false) in
+    rw (le-leb _ _ short) (done c.loop-i.invariant c.loop-i-test.false)
