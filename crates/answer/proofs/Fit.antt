@@ -21,14 +21,14 @@ use Rattle.reply.specs.Reply.{Reply}
 use Rattle.pass.specs.Pass.{full_sets, judgement}
 use Rattle.pass.proofs.Judgement.{judgement_fits}
 use Rattle.pass.proofs.Places.{MarkUpTo, ReplyBelow, judgement_places}
-use Rattle.line.specs.Line.{line_mark, MarkTold, bare_fields, reply_fields, place_width}
+use Rattle.line.specs.Line.{MarkTold, bare_fields, reply_fields, place_width}
 use Rattle.answer.specs.Answer.{on_read, text_judged, PlacesFit, RepliesFit}
 
 -- the places of a reply's line are held whole
 abbrev Fit : Reply → ℕ → Type 0
 Fit r n = PlacesFit (reply_fields r n)
 
-mark_fit : (m : Option ℕ) (i : ℕ) → i < most_frames → MarkUpTo i m → MarkTold place_width (line_mark m)
+mark_fit : (m : Option ℕ) (i : ℕ) → i < most_frames → MarkUpTo i m → MarkTold place_width m
 mark_fit (Some k) i h b = omega arith
 mark_fit None i h b = tt
 
@@ -44,7 +44,7 @@ judgement_fit codes ws = go (judgement codes full_sets ws).reply refl (judgement
   where
     go : (r : Reply) → (judgement codes full_sets ws).reply ≡ r → ReplyBelow most_frames r → Fit r (length ws)
     go (Err x) e b = refused_fit x (length ws) b
-    go (Ok (Ok tt)) e b = bare_fit 0 (length ws) (judgement_fits codes full_sets ws (Ok tt) e)
+    go (Ok (Ok _)) e b = bare_fit 0 (length ws) (judgement_fits codes full_sets ws (Ok tt) e)
     go (Ok (Err v)) e b = record {
       frame = omega (arith, b.frame);
       begin = mark_fit v.begin v.frame b.frame b.begin;

@@ -8,5 +8,5 @@ use Rattle.answer.specs.Answer.{reply_kind}
 
 pub kind_of_lem : (r : Reply) (n : ℕ) → (reply_fields r n).kind ≡ reply_kind r
 kind_of_lem (Err x) n = refl
-kind_of_lem (Ok (Ok tt)) n = refl
+kind_of_lem (Ok (Ok _)) n = refl
 kind_of_lem (Ok (Err v)) n = refl

@@ -6,6 +6,7 @@ ghost use Rattle.std.specs.Prelude.{◌≡◌, ◌++◌, ◌≤◌, length, drop
 ghost use Rattle.line.specs.Line.{line_length, verdict_line};
 ghost use Rattle.answer.specs.Answer.{reply_kind, text_judged};
 
+use frame::MOST;
 use guards::Judgement;
 use reply::Reply;
 
@@ -17,34 +18,28 @@ pub struct TextJudged {
 }
 
 // The verdict line of a reply, at the front of a buffer, and its kind.
-pub fn answer(line: &mut [u8], r: Reply, frames: u32) -> u8
+pub fn answer(line: &mut [u8], reply: Reply, frames: u32) -> u8
     requires { line_length ≤ length line.old }
-    ensures kind { result ≡ reply_kind r }
-    ensures contents { line.new ≡ verdict_line r frames ++ drop line_length line.old }
+    ensures kind { result ≡ reply_kind reply }
+    ensures contents { line.new ≡ verdict_line reply frames ++ drop line_length line.old }
 {
-    let f = line::reply_fields(r, frames);
-    let l = line::fields_line(f);
-    line::put_line(line, l);
-    f.kind
+    let fields = line::reply_fields(reply, frames);
+    line::put_line(line, &line::fields_line(fields));
+    fields.kind
 }
 
 // The verdict on a text, guards inferred.
 pub fn judge_text(text: &[u8]) -> TextJudged
     ensures { result ≡ text_judged text.now }
 {
-    let mut words = [0u32; frame::MOST];
-    let q = text::read_into(text, &mut words);
-    match q {
-        Ok(n) => {
-            let k = n as usize;
-            let r = verdict::judge(Judgement::Inferred, b"", &words[..k]);
-            TextJudged {
-                reply: r,
-                frames: n,
-            }
-        }
-        Err(x) => TextJudged {
-            reply: Err(x),
+    let mut words = [0; MOST];
+    match text::read_into(text, &mut words) {
+        Ok(frames) => TextJudged {
+            reply: verdict::judge(Judgement::Inferred, &words[..frames as usize]),
+            frames,
+        },
+        Err(refused) => TextJudged {
+            reply: Err(refused),
             frames: 0,
         },
     }

@@ -43,8 +43,8 @@ use Rattle.demand.specs.Demand.{Sound, RefusedBy, in_list, in_recording, irreduc
 -- recordings that compare as equal are sound
 equal_sound : (p q : Result Unit Refused) (b : Bool) → after_checks p q b ≡ Ok true → (p ≡ (Ok tt)) × (q ≡ (Ok tt))
 equal_sound (Err x) q b e = never (cc)
-equal_sound (Ok tt) (Err x) b e = never (cc)
-equal_sound (Ok tt) (Ok tt) b e = (refl, refl)
+equal_sound (Ok _) (Err x) b e = never (cc)
+equal_sound (Ok _) (Ok _) b e = (refl, refl)
 
 equal_exactly : (left right : List ℕ) → equal_reply left right ≡ Ok true ↔ Sound left × Sound right × Exchanges independent_words left right
 equal_exactly left right = (
@@ -70,7 +70,7 @@ pass_refuses table i s j (w ∷ ws) x c e =
   where
     go : (f : Frame) (y : Level) (n : State) → decode_word w ≡ Ok f → step_frame f s ≡ stepped (Ok y) n
         → (v : Verdict) (k : Judging) → judge_frame table i f s j ≡ judged v k → ((k : Judging) → (judge_from table (i + 1) n k ws).reply ≡ Err x → ⊥) → ⊥
-    go f y n d g (Ok tt) k q ih = ih k (rw (d, q, g) at e)
+    go f y n d g (Ok _) k q ih = ih k (rw (d, q, g) at e)
     go f y n d g (Err v) k q ih = let z : violated v ≡ Err x = rw (d, q, g) at e in never (cc)
 
 -- a recording that its judgement refuses is refused by the check
@@ -79,7 +79,7 @@ unfolding judgement
 judgement_refused table ws x e = go (check_reply ws) refl
   where
     go : (q : Result Unit Refused) → check_reply ws ≡ q → check_reply ws ≡ Err x
-    go (Ok tt) f = absurd (pass_refuses table 0 start (start_judging full_sets) ws x (sym (check_short ws (sound_fits ws f)) ∙ f) (rw f at e))
+    go (Ok _) f = absurd (pass_refuses table 0 start (start_judging full_sets) ws x (sym (check_short ws (sound_fits ws f)) ∙ f) (rw f at e))
     go (Err y) f = let g : ◌≡◌ {A = Reply} (Err y) (Err x) = rw f at e in let h : y ≡ x = cc in f ∙ ap Err h
 
 -- A request: what is to hold for it to be granted, and that no refusal holds then.
@@ -123,7 +123,7 @@ module _ {A : Type 0} (short : Refusal) (list : Result ℕ Refused) (table ws : 
     by_reply : (q : Reply) → (judgement table full_sets ws).reply ≡ q
         → AskedBy (cond (reducible_reply q) (closed_reply short (open_at_end (judgement table full_sets ws)) (length ws) (length out)) (asked_for.irreducible q))
     by_reply (Err x) e = is_refused x (in_recording read (judgement_refused table ws x e))
-    by_reply (Ok (Ok tt)) e = by_mark (open_at_end (judgement table full_sets ws)) refl e
+    by_reply (Ok (Ok _)) e = by_mark (open_at_end (judgement table full_sets ws)) refl e
     by_reply (Ok (Err v)) e = is_refused _ (irreducible read e)
 
     when_read : AskedBy (reply_by short table ws (length out))

@@ -1,16 +1,14 @@
 -- Reading and writing undo each other: a digit, any number of digits, a word's line.
 use Rattle.std.specs.Prelude.{Some}
 use Prim.Native.Nat.{ℕ, zero, suc, ◌+◌, ◌-◌, ◌*◌, ◌/◌, ◌%◌, ◌≤◌, ◌<◌}
-use mathlib.Core.Path.{◌≡◌, refl, sym, ap, ◌∙◌}
-use mathlib.Core.Bool.{Bool, true, false}
+use mathlib.Core.Path.{◌≡◌, sym, ap, ◌∙◌}
 use mathlib.Core.List.{List, [], ◌∷◌, ◌++◌, append-nil}
 use native.Mathlib.Omega.{arith}
 use native.Mathlib.Nat.{add-zero, zero-add, pow-succ'}
 use lib.ListN.{length, get_or, take, drop, length-take, length-drop}
 use lib.Seq.{length-take-le, append_snoc, take-suc, take-take, take_at, take_all, get_or_at, get_or-take, get_or-drop}
-use lib.Dec.{ltb}
-use borrow.Author.Tests.{lt-ltb, le-ltb, ltb-true, ltb-false}
-use Rattle.laws.proofs.Logic.{never}
+use borrow.Author.Tests.{le-ltb}
+use Rattle.std.proofs.lemmas.Bool.Decides.{nat_tests}
 use Rattle.digits.specs.Digits.{Digits, value, none, digit_of, digits_value, line_of, byte_of, digits, word_line, too_wide, WrittenDigitsRead, ReadDigitsWrite}
 use Rattle.digits.proofs.Sums.{digits_bound}
 use Rattle.digits.proofs.Laws.{shown}
@@ -19,32 +17,12 @@ use Rattle.digits.proofs.Writing.{length_digits, length_word_line}
 -- the digit of a value has that value
 digit_read : (v : ℕ) → v < 16 → digit_of (byte_of v) ≡ v
 unfolding digit_of byte_of
-digit_read v h = go (ltb v 10) refl
-  where
-    go : (t : Bool) → ltb v 10 ≡ t → digit_of (byte_of v) ≡ v
-    go true q =
-        let l = ltb-true v 10 q in
-        simp (q, le-ltb (v + 48) 48 (omega arith), lt-ltb (v + 48) 58 (omega arith)) (omega arith)
-    go false q =
-        let l = ltb-false v 10 q in
-        simp (q, le-ltb (v + 55) 48 (omega arith), le-ltb (v + 55) 58 (omega arith), le-ltb (v + 55) 65 (omega arith), lt-ltb (v + 55) 71 (omega arith)) (omega arith)
+digit_read v h = grind (arith, nat_tests)
 
 -- a byte that has a value is the digit of it
 read_digit : (b : ℕ) → digit_of b ≤ 15 → byte_of (digit_of b) ≡ b
 unfolding digit_of byte_of
-read_digit b h = go (ltb b 48) refl (ltb b 58) refl (ltb b 65) refl (ltb b 71) refl
-  where
-    go : (p : Bool) → ltb b 48 ≡ p → (q : Bool) → ltb b 58 ≡ q → (r : Bool) → ltb b 65 ≡ r → (t : Bool) → ltb b 71 ≡ t → byte_of (digit_of b) ≡ b
-    go true e q f r g t k = let l : 16 ≤ 15 = rw e at h in absurd (omega arith)
-    go false e true f r g t k =
-        let l = ltb-false b 48 e in
-        let m = ltb-true b 58 f in
-        simp (e, f, lt-ltb (b - 48) 10 (omega arith)) (omega arith)
-    go false e false f true g t k = let l : 16 ≤ 15 = rw (e, f, g) at h in absurd (omega arith)
-    go false e false f false g false k = let l : 16 ≤ 15 = rw (e, f, g, k) at h in absurd (omega arith)
-    go false e false f false g true k =
-        let l = ltb-false b 65 g in
-        simp (e, f, g, k, le-ltb (b - 55) 10 (omega arith)) (omega arith)
+read_digit b h = grind (arith, nat_tests)
 
 -- one digit more behind others
 abbrev next : Digits → ℕ → Digits
@@ -54,12 +32,7 @@ next none d = none
 digits_next : (v : ℕ) (bs : List ℕ) (b : ℕ) → digit_of b ≤ 15 → digits_value v (bs ++ (b ∷ [])) ≡ next (digits_value v bs) (digit_of b)
 unfolding digits_value
 digits_next v [] b h = rw (le-ltb 15 (digit_of b) h)
-digits_next v (x ∷ bs) b h = go (digits_next (v * 16 + digit_of x) bs b h) (ltb 15 (digit_of x)) refl
-  where
-    go : digits_value (v * 16 + digit_of x) (bs ++ (b ∷ [])) ≡ next (digits_value (v * 16 + digit_of x) bs) (digit_of b) → (t : Bool) → ltb 15 (digit_of x) ≡ t
-        → digits_value v (x ∷ bs ++ (b ∷ [])) ≡ next (digits_value v (x ∷ bs)) (digit_of b)
-    go ih true q = rw q
-    go ih false q = rw q ih
+digits_next v (x ∷ bs) b h = grind (arith, nat_tests, digits_next (v * 16 + digit_of x) bs b h)
 
 pub written_digits_read : WrittenDigitsRead
 unfolding digits digits_value
@@ -73,17 +46,13 @@ written_digits_read (suc n) v h =
 digits_behind : (k v : ℕ) (bs : List ℕ) (w : ℕ) → digits_value v bs ≡ value w → digits (length bs + k) w ≡ digits k v ++ bs
 unfolding digits digits_value
 digits_behind k v [] w e = let q : v ≡ w = cc in rw (← q, zero-add k) (sym (append-nil (digits k v)))
-digits_behind k v (b ∷ bs) w e = go (digits_behind (suc k) (v * 16 + digit_of b) bs w) (ltb 15 (digit_of b)) refl
-  where
-    go : (digits_value (v * 16 + digit_of b) bs ≡ value w → digits (length bs + suc k) w ≡ digits (suc k) (v * 16 + digit_of b) ++ bs) → (t : Bool) → ltb 15 (digit_of b) ≡ t
-        → digits (length (b ∷ bs) + k) w ≡ digits k v ++ b ∷ bs
-    go ih true q = let f : ◌≡◌ {A = Digits} none (value w) = rw q at e in never (cc)
-    go ih false q =
-        let l = ltb-false 15 (digit_of b) q in
-        let a : (v * 16 + digit_of b) / 16 ≡ v = omega arith in
-        let r : (v * 16 + digit_of b) % 16 ≡ digit_of b = omega arith in
-        let n : suc (length bs) + k ≡ length bs + suc k = omega arith in
-        rw n (ih (rw q at e) ∙ rw (a, r, read_digit b l) (append_snoc (digits k v) b bs))
+digits_behind k v (b ∷ bs) w e =
+    let l : digit_of b ≤ 15 = grind (arith, nat_tests) in
+    let f : digits_value (v * 16 + digit_of b) bs ≡ value w = grind (arith, nat_tests) in
+    let a : (v * 16 + digit_of b) / 16 ≡ v = omega arith in
+    let r : (v * 16 + digit_of b) % 16 ≡ digit_of b = omega arith in
+    let n : suc (length bs) + k ≡ length bs + suc k = omega arith in
+    rw n (digits_behind (suc k) (v * 16 + digit_of b) bs w f ∙ rw (a, r, read_digit b l) (append_snoc (digits k v) b bs))
 
 pub read_digits_write : ReadDigitsWrite
 unfolding digits

@@ -1,8 +1,7 @@
 -- Laws that crates above cite: of lines, of what is written, that reading and writing undo each other; the sums of digits' values, the
--- numbers that digits say, and the one test of a table's entries.
+-- numbers that digits say.
 pub mod Sums
 pub mod Numbers
 pub mod Laws
 pub mod Writing
 pub mod Inverse
-pub mod Every

@@ -1,61 +1,26 @@
--- Bytes as values of digits, and the numbers that these make. In this order: one byte, told by its distance from A and from 0; the turns of the
--- loops; what all values together say, over any number of digits.
-use Prim.Native.Nat.{ℕ, zero, suc, ◌+◌, ◌-◌, ◌*◌, ◌/◌, ◌%◌, ◌^◌, ◌≤◌, ◌<◌}
+-- Bytes as values of digits, and the numbers that these make. In this order: one byte; the turns of the loops; what all values together
+-- say, over any number of digits.
+use Prim.Native.Nat.{ℕ, zero, suc, ◌+◌, ◌*◌, ◌/◌, ◌^◌, ◌≤◌, ◌<◌}
 use mathlib.Core.Path.{◌≡◌, refl, ap, ◌∙◌}
-use mathlib.Core.Bool.{Bool, true, false}
+use mathlib.Core.Bool.{true, false}
 use mathlib.Core.List.{List, [], ◌∷◌, ◌++◌}
 use native.Mathlib.Omega.{arith}
 use native.Mathlib.Numerals.{add-one}
-use native.Mathlib.Nat.{add-zero, sub-zero, pow-suc, pow-le-pow_right}
-use lib.ListN.{length, get_or, take, drop, set}
-use lib.Seq.{take-suc, length-take-le}
-use borrow.Author.Tests.{lt-ltb, le-ltb, ltb-true, ltb-false}
+use native.Mathlib.Nat.{pow-suc, pow-le-pow_right}
+use lib.ListN.{length, get_or, take, drop, set, length-take}
+use lib.Seq.{take-suc, drop-cons, get_or-take, get_or-drop, length-take-le}
+use borrow.Author.Tests.{le-ltb, ltb-true, ltb-false}
 use lib.Dec.{ltb}
-use Rattle.laws.proofs.Logic.{never}
+use Rattle.std.proofs.lemmas.List.{get_or_past}
+use Rattle.std.proofs.lemmas.Bool.Decides.{nat_tests}
+use Rattle.laws.proofs.Logic.{by_test}
 use Rattle.laws.proofs.Lists.{front_next}
-use Rattle.digits.specs.Digits.{Digits, value, none, letter_of, digit_of, digits_value, all_digits, values_of, others, joined, DigitValues}
-use Rattle.digits.proofs.Sums.{next_byte}
-
--- the distance of a byte from A and from 0, counted round
-pub letter_near : (b : ℕ) → b < 256 → (b + 191) % 256 < 6 → (b + 191) % 256 + 10 ≡ letter_of b
-unfolding letter_of
-letter_near b s h =
-    let e : (65 ≤ b) × (b < 71) = (omega arith, omega arith) in
-    rw (le-ltb b 65 e.0, lt-ltb b 71 e.1) (omega (arith, e.0, e.1))
-
-pub letter_far : (b : ℕ) → b < 256 → 6 ≤ (b + 191) % 256 → 16 ≡ letter_of b
-unfolding letter_of
-letter_far b s h = go (ltb b 65) refl
-  where
-    go : (p : Bool) → ltb b 65 ≡ p → 16 ≡ letter_of b
-    go true e = rw e
-    go false e = rw (e, le-ltb b 71 (omega (arith, ltb-false b 65 e)))
-
-pub digit_near : (b : ℕ) → b < 256 → (b + 208) % 256 < 10 → (b + 208) % 256 ≡ digit_of b
-unfolding digit_of
-digit_near b s h =
-    let e : (48 ≤ b) × (b < 58) = (omega arith, omega arith) in
-    rw (le-ltb b 48 e.0, lt-ltb b 58 e.1) (omega (arith, e.0, e.1))
-
-pub digit_far : (b : ℕ) → b < 256 → 10 ≤ (b + 208) % 256 → letter_of b ≡ digit_of b
-unfolding letter_of digit_of
-digit_far b s h = go (ltb b 48) refl
-  where
-    go : (p : Bool) → ltb b 48 ≡ p → letter_of b ≡ digit_of b
-    go true e = let l = ltb-true b 48 e in rw (e, lt-ltb b 65 (omega arith))
-    go false e = rw (e, le-ltb b 58 (omega (arith, ltb-false b 48 e)))
+use Rattle.digits.specs.Digits.{value, digit_of, digits_value, all_digits, values_of, others, joined, DigitValues}
 
 -- a byte's value as a digit, or 16
 pub digit_most : (b d : ℕ) → d ≡ digit_of b → d ≤ 16
 unfolding digit_of
-digit_most b d e = rw e (go (ltb b 48) refl (ltb b 58) refl (ltb b 65) refl (ltb b 71) refl)
-  where
-    go : (p : Bool) → ltb b 48 ≡ p → (q : Bool) → ltb b 58 ≡ q → (r : Bool) → ltb b 65 ≡ r → (t : Bool) → ltb b 71 ≡ t → digit_of b ≤ 16
-    go true a q f r g t h = rw a (omega arith)
-    go false a true f r g t h = rw (a, f) (omega (arith, ltb-true b 58 f))
-    go false a false f true g t h = rw (a, f, g) (omega arith)
-    go false a false f false g true h = rw (a, f, g, h) (omega (arith, ltb-true b 71 h))
-    go false a false f false g false h = rw (a, f, g, h) (omega arith)
+digit_most b d e = grind (arith, nat_tests)
 
 -- one byte more behind others
 values_behind : (xs : List ℕ) (b : ℕ) → values_of (xs ++ (b ∷ [])) ≡ values_of xs ++ (digit_of b ∷ [])
@@ -84,20 +49,10 @@ value_more s out₀ out k d h l is e =
 pub count_more : (s : List ℕ) (k d n : ℕ) → k < length s → d ≡ digit_of (get_or s k 0) → n ≡ others (take k s) → n + d / 16 ≡ others (take (k + 1) s)
 count_more s k d n h is e = rw (add-one k, take-suc s k 0 h, others_behind (take k s) (get_or s k 0), e, is)
 
--- the number of n values from the k-th on, behind v
-abbrev pub joined_from : List ℕ → ℕ → ℕ → ℕ → ℕ → ℕ
-joined_from d at n v k = joined v (take (n - k) (drop (at + k) d))
-
-pub joined_all : (d : List ℕ) (at n : ℕ) → joined 0 (take n (drop at d)) ≡ joined_from d at n 0 0
-joined_all d at n = simp (add-zero, sub-zero)
-
-pub joined_more : (d : List ℕ) (at n v k : ℕ) → k < n → at + n ≤ length d → joined_from d at n v k ≡ joined_from d at n (v * 16 + get_or d (at + k) 0) (k + 1)
+-- the number of the values from the k-th on, behind v
+pub joined_more : (d : List ℕ) (v k : ℕ) → k < length d → joined v (drop k d) ≡ joined (v * 16 + get_or d k 0) (drop (k + 1) d)
 unfolding joined
-joined_more d at n v k more fits = rw (next_byte d at n k more fits)
-
-pub joined_end : (d : List ℕ) (at n v k : ℕ) → n ≤ k → joined_from d at n v k ≡ v
-unfolding joined
-joined_end d at n v k h = let z : n - k ≡ 0 = omega arith in rw z
+joined_more d v k h = rw (drop-cons d k 0, add-one k)
 
 -- a value of k digits, and one more
 pub wider : (v k d : ℕ) → v < 16 ^ k → d ≤ 15 → v * 16 + d < 16 ^ (k + 1)
@@ -123,32 +78,18 @@ no_others (b ∷ bs) e =
 pub some_others : (bs : List ℕ) → 0 < others bs → all_digits bs ≡ false
 unfolding others all_digits
 some_others [] h = absurd (omega arith)
-some_others (b ∷ bs) h = go (ltb 15 (digit_of b)) refl (some_others bs)
-  where
-    go : (t : Bool) → ltb 15 (digit_of b) ≡ t → (0 < others bs → all_digits bs ≡ false) → all_digits (b ∷ bs) ≡ false
-    go true q ih = rw q
-    go false q ih = rw q (ih (omega (arith, ltb-false 15 (digit_of b) q)))
+some_others (b ∷ bs) h = grind (arith, nat_tests, some_others bs)
 
 -- digits say the number that their values make, and no others do
 pub digits_said : (v : ℕ) (bs : List ℕ) → all_digits bs ≡ true → digits_value v bs ≡ value (joined v (values_of bs))
 unfolding all_digits digits_value values_of joined
 digits_said v [] e = refl
-digits_said v (b ∷ bs) e = go (ltb 15 (digit_of b)) refl (digits_said (v * 16 + digit_of b) bs)
-  where
-    go : (t : Bool) → ltb 15 (digit_of b) ≡ t → (all_digits bs ≡ true → digits_value (v * 16 + digit_of b) bs ≡ value (joined (v * 16 + digit_of b) (values_of bs)))
-        → digits_value v (b ∷ bs) ≡ value (joined v (values_of (b ∷ bs)))
-    go true q ih = let z : false ≡ true = rw q at e in never (cc)
-    go false q ih = rw q (ih (rw q at e))
+digits_said v (b ∷ bs) e = grind (arith, nat_tests, digits_said (v * 16 + digit_of b) bs)
 
 pub said_digits : (v : ℕ) (bs : List ℕ) (w : ℕ) → digits_value v bs ≡ value w → (all_digits bs ≡ true) × (joined v (values_of bs) ≡ w)
 unfolding all_digits digits_value values_of joined
 said_digits v [] w e = (refl, cc)
-said_digits v (b ∷ bs) w e = go (ltb 15 (digit_of b)) refl (said_digits (v * 16 + digit_of b) bs w)
-  where
-    go : (t : Bool) → ltb 15 (digit_of b) ≡ t → (digits_value (v * 16 + digit_of b) bs ≡ value w → (all_digits bs ≡ true) × (joined (v * 16 + digit_of b) (values_of bs) ≡ w))
-        → (all_digits (b ∷ bs) ≡ true) × (joined v (values_of (b ∷ bs)) ≡ w)
-    go true q ih = let z : ◌≡◌ {A = Digits} none (value w) = rw q at e in never (cc)
-    go false q ih = let r = ih (rw q at e) in (rw q r.0, r.1)
+said_digits v (b ∷ bs) w e = grind (arith, nat_tests, said_digits (v * 16 + digit_of b) bs w)
 
 -- the values of a part are a part of the values
 values_take : (n : ℕ) (bs : List ℕ) → values_of (take n bs) ≡ take n (values_of bs)
@@ -165,3 +106,9 @@ values_drop (suc n) (b ∷ bs) = values_drop n bs
 
 pub values_part : (at n : ℕ) (bs : List ℕ) → values_of (take n (drop at bs)) ≡ take n (drop at (values_of bs))
 values_part at n bs = values_take n (drop at bs) ∙ ap (take n) (values_drop at bs)
+
+pub part_digits : (ds : List ℕ) → DigitValues ds → (at n : ℕ) → DigitValues (take n (drop at ds))
+unfolding DigitValues
+part_digits ds h at n = λ k. by_test (ltb k n)
+    (λ q. rw (get_or-take n (drop at ds) k 0 (ltb-true k n q), get_or-drop at ds k 0) (h (at + k)))
+    (λ q. rw (get_or_past (take n (drop at ds)) k 0 (omega (arith, length-take n (drop at ds), ltb-false k n q))) (omega arith))

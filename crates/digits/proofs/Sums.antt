@@ -1,16 +1,13 @@
 -- Eight digits by one sum: each byte that is no digit counts 2^32, so the sum is below 2^32 exactly if all eight are digits.
-use Prim.Native.Nat.{ℕ, suc, ◌+◌, ◌-◌, ◌*◌, ◌^◌, ◌≤◌, ◌<◌}
+use Prim.Native.Nat.{ℕ, ◌+◌, ◌*◌, ◌^◌, ◌≤◌, ◌<◌}
 use mathlib.Core.Path.{◌≡◌, refl, ◌∙◌}
-use mathlib.Core.Bool.{Bool, true, false}
 use mathlib.Core.List.{List, [], ◌∷◌}
 use native.Mathlib.Omega.{arith}
 use native.Mathlib.Numerals.{add-one}
-use native.Mathlib.Nat.{pow-suc, pow-le-pow_right, mul-le-mul_right, mul_assoc, lt_of_lt_of_le, pow-succ'}
-use lib.ListN.{length, get_or, take, drop, length-take, length-drop}
+use native.Mathlib.Nat.{pow-suc, pow-le-pow_right, mul-le-mul_right, mul_assoc, pow-succ'}
+use lib.ListN.{length, get_or, drop}
 use lib.Seq.{drop-cons}
-use lib.Dec.{ltb}
-use borrow.Author.Tests.{lt-ltb, le-ltb, ltb-false}
-use Rattle.laws.proofs.Logic.{never}
+use Rattle.std.proofs.lemmas.Bool.Decides.{nat_tests}
 use Rattle.digits.specs.Digits.{Digits, value, none, digit_of, value_of, digits_value, digits_of_sum}
 
 -- values of bytes added up after v, top digit first
@@ -27,88 +24,53 @@ sum_large v (b ∷ bs) h = sum_large (v * 16 + value_of b) bs (omega arith)
 sum_value : (v : ℕ) (xs : List ℕ) (r : ℕ) → digits_value v xs ≡ value r → sum_from v xs ≡ r
 unfolding digits_value sum_from value_of
 sum_value v [] r e = cc
-sum_value v (b ∷ bs) r e = go (sum_value (v * 16 + digit_of b) bs r) (ltb 15 (digit_of b)) refl
-  where
-    go : (digits_value (v * 16 + digit_of b) bs ≡ value r → sum_from (v * 16 + digit_of b) bs ≡ r) → (t : Bool) → ltb 15 (digit_of b) ≡ t → sum_from (v * 16 + value_of b) bs ≡ r
-    go ih true q = let f : ◌≡◌ {A = Digits} none (value r) = rw q at e in never (cc)
-    go ih false q = rw q (ih (rw q at e))
+sum_value v (b ∷ bs) r e = grind (arith, nat_tests, sum_value (v * 16 + digit_of b) bs r)
 
 sum_not : (v : ℕ) (xs : List ℕ) → digits_value v xs ≡ none → 4294967296 ≤ sum_from v xs
 unfolding digits_value sum_from value_of
-sum_not v [] e = never (cc)
-sum_not v (b ∷ bs) e = go (sum_not (v * 16 + digit_of b) bs) (ltb 15 (digit_of b)) refl
-  where
-    go : (digits_value (v * 16 + digit_of b) bs ≡ none → 4294967296 ≤ sum_from (v * 16 + digit_of b) bs) → (t : Bool) → ltb 15 (digit_of b) ≡ t → 4294967296 ≤ sum_from (v * 16 + value_of b) bs
-    go ih true q = rw q (sum_large (v * 16 + 4294967296) bs (omega arith))
-    go ih false q = rw q (ih (rw q at e))
+sum_not v [] e = absurd (cc)
+sum_not v (b ∷ bs) e = grind (arith, nat_tests, sum_large (v * 16 + 4294967296) bs, sum_not (v * 16 + digit_of b) bs)
 
 pub value_bound : (b : ℕ) → value_of b ≤ 4294967296
 unfolding value_of
-value_bound b = go (ltb 15 (digit_of b)) refl
-  where
-    go : (t : Bool) → ltb 15 (digit_of b) ≡ t → value_of b ≤ 4294967296
-    go true q = rw q (omega arith)
-    go false q = rw q (omega (arith, ltb-false 15 (digit_of b) q))
+value_bound b = grind (arith, nat_tests)
 
 pub value_fits : (b d : ℕ) → d ≡ value_of b → d ≤ 4294967296
 value_fits b d e = rw e (value_bound b)
 
--- the bytes of a field of n digits from its k-th on: the first of them, and the others
-pub next_byte : (s : List ℕ) (at n k : ℕ) → k < n → at + n ≤ length s
-    → take (n - k) (drop (at + k) s) ≡ get_or s (at + k) 0 ∷ take (n - (k + 1)) (drop (at + (k + 1)) s)
-next_byte s at n k more fits =
-    let h : at + k < length s = omega arith in
-    let w : n - k ≡ suc (n - (k + 1)) = omega arith in
-    let m : suc (at + k) ≡ at + (k + 1) = omega arith in
-    rw (w, drop-cons s (at + k) 0 h, m)
-
--- one byte of a field: the next place, with the sum so far
-pub sum_turn : (s : List ℕ) (at v k d : ℕ) → k < 8 → at + 8 ≤ length s → d ≡ value_of (get_or s (at + k) 0)
-    → sum_from v (take (8 - k) (drop (at + k) s)) ≡ sum_from (v * 16 + d) (take (8 - (k + 1)) (drop (at + (k + 1)) s))
+-- one byte: the next place, with the sum so far
+pub sum_more : (s : List ℕ) (v k d : ℕ) → k < length s → d ≡ value_of (get_or s k 0)
+    → sum_from v (drop k s) ≡ sum_from (v * 16 + d) (drop (k + 1) s)
 unfolding sum_from
-sum_turn s at v k d more fits is = rw (next_byte s at 8 k more fits, is)
-
-pub sum_end : (s : List ℕ) (n v : ℕ) → sum_from v (take 0 (drop n s)) ≡ v
-unfolding sum_from
-sum_end s n v = refl
+sum_more s v k d h is = rw (drop-cons s k 0, add-one k, is)
 
 -- the bound of a sum of k values
-pub sum_more : (v k d : ℕ) → 15 * v + 4294967296 ≤ 4294967296 * 16 ^ k → d ≤ 4294967296 → 15 * (v * 16 + d) + 4294967296 ≤ 4294967296 * 16 ^ (k + 1)
-sum_more v k d a b = rw (add-one k, pow-suc 16 k) (omega arith)
+pub bound_more : (v k d : ℕ) → 15 * v + 4294967296 ≤ 4294967296 * 16 ^ k → d ≤ 4294967296 → 15 * (v * 16 + d) + 4294967296 ≤ 4294967296 * 16 ^ (k + 1)
+bound_more v k d a b = rw (add-one k, pow-suc 16 k) (omega arith)
 
 pub power_below : (k : ℕ) → k ≤ 7 → 16 ^ k ≤ 268435456
 power_below k h = pow-le-pow_right {n = 16} (omega arith) h
-
-bound_step : (v d p r : ℕ) → d ≤ 15 → r < (v * 16 + d + 1) * p → r < (v + 1) * (16 * p)
-bound_step v d p r h l =
-    let m : v * 16 + d + 1 ≤ (v + 1) * 16 = omega arith in
-    rw (← mul_assoc (v + 1) 16 p) (lt_of_lt_of_le l (mul-le-mul_right p m))
 
 -- a field of n digits is below sixteen to the n
 pub digits_bound : (v : ℕ) (xs : List ℕ) (r : ℕ) → digits_value v xs ≡ value r → r < (v + 1) * 16 ^ length xs
 unfolding digits_value
 digits_bound v [] r e = let q : v ≡ r = cc in omega arith
-digits_bound v (b ∷ bs) r e = rw (pow-succ' 16 (length bs)) (go (digits_bound (v * 16 + digit_of b) bs r) (ltb 15 (digit_of b)) refl)
-  where
-    go : (digits_value (v * 16 + digit_of b) bs ≡ value r → r < (v * 16 + digit_of b + 1) * 16 ^ length bs) → (t : Bool) → ltb 15 (digit_of b) ≡ t → r < (v + 1) * (16 * 16 ^ length bs)
-    go ih true q = let f : ◌≡◌ {A = Digits} none (value r) = rw q at e in never (cc)
-    go ih false q =
-        let f : digits_value (v * 16 + digit_of b) bs ≡ value r = rw q at e in
-        bound_step v (digit_of b) (16 ^ length bs) r (ltb-false 15 (digit_of b) q) (ih f)
+digits_bound v (b ∷ bs) r e =
+    let l : digit_of b ≤ 15 = grind (arith, nat_tests) in
+    let f : digits_value (v * 16 + digit_of b) bs ≡ value r = grind (arith, nat_tests) in
+    let m : (v * 16 + digit_of b + 1) * 16 ^ length bs ≤ (v + 1) * 16 * 16 ^ length bs = mul-le-mul_right (16 ^ length bs) (omega arith) in
+    rw (pow-succ' 16 (length bs)) (omega (arith, digits_bound (v * 16 + digit_of b) bs r f, mul_assoc (v + 1) 16 (16 ^ length bs)))
 
-pub word_bound : (s : List ℕ) (at r : ℕ) → at + 8 ≤ length s → digits_value 0 (take 8 (drop at s)) ≡ value r → r < 4294967296
-word_bound s at r h e =
-    let n : length (take 8 (drop at s)) ≡ 8 = simp (length-take, length-drop) (omega arith) in
-    let b : r < (0 + 1) * 16 ^ length (take 8 (drop at s)) = digits_bound 0 (take 8 (drop at s)) r e in
-    let g : r < 1 * 16 ^ 8 = rw n at b in
+word_bound : (bs : List ℕ) (r : ℕ) → length bs ≡ 8 → digits_value 0 bs ≡ value r → r < 4294967296
+word_bound bs r h e =
+    let b = digits_bound 0 bs r e in
+    let g : r < 1 * 16 ^ 8 = rw h at b in
     omega arith
 
 -- eight digits, by their sum
-pub eight : (s : List ℕ) (at : ℕ) → at + 8 ≤ length s → digits_value 0 (take 8 (drop at s)) ≡ digits_of_sum (sum_from 0 (take 8 (drop at s)))
-eight s at h = go (digits_value 0 (take 8 (drop at s))) refl
+pub eight : (bs : List ℕ) → length bs ≡ 8 → digits_value 0 bs ≡ digits_of_sum (sum_from 0 bs)
+eight bs h = go (digits_value 0 bs) refl
   where
-    go : (x : Digits) → digits_value 0 (take 8 (drop at s)) ≡ x → digits_value 0 (take 8 (drop at s)) ≡ digits_of_sum (sum_from 0 (take 8 (drop at s)))
-    go (value r) e =
-        let b : r < 4294967296 = word_bound s at r h e in
-        e ∙ rw (sum_value 0 (take 8 (drop at s)) r e, le-ltb 4294967295 r (omega arith))
-    go none e = e ∙ rw (lt-ltb 4294967295 (sum_from 0 (take 8 (drop at s))) (omega (arith, sum_not 0 (take 8 (drop at s)) e)))
+    go : (x : Digits) → digits_value 0 bs ≡ x → digits_value 0 bs ≡ digits_of_sum (sum_from 0 bs)
+    go (value r) e = e ∙ grind (arith, nat_tests, sum_value 0 bs r e, word_bound bs r h e)
+    go none e = e ∙ grind (arith, nat_tests, sum_not 0 bs e)

@@ -1,14 +1,15 @@
 -- Laws of what is written: how many bytes there are, and one more written.
-use Prim.Native.Nat.{ℕ, zero, suc, ◌+◌, ◌*◌, ◌/◌, ◌%◌, ◌<◌, ◌≤◌}
+use Prim.Native.Nat.{ℕ, zero, suc, ◌+◌, ◌*◌, ◌/◌, ◌%◌, ◌<◌}
 use mathlib.Core.Path.{◌≡◌, refl, sym, ap, ◌∙◌}
-use mathlib.Core.List.{List, [], ◌∷◌, ◌++◌, append_assoc}
+use mathlib.Core.List.{List, [], ◌∷◌, ◌++◌, append-nil, append_assoc}
 use native.Mathlib.Omega.{arith}
 use native.Mathlib.Numerals.{add-one}
-use native.Mathlib.Nat.{add-zero, pow-succ', mod-lt, mod-eq_of_lt, div-add-mod, add-mul-mod_self_left, one-le-pow, mul_assoc}
-use lib.ListN.{length, take, drop, set, length-append, take-append-drop}
-use lib.Seq.{take-set-le, append_snoc, take_at, drop_at, drop-drop, length-take-le}
-use Rattle.laws.proofs.Lists.{drop_stored, front_next}
-use Rattle.digits.specs.Digits.{byte_of, digits, pasted, word_line, lines_of, too_wide}
+use native.Mathlib.Nat.{pow-succ', mod-lt, mod-eq_of_lt, div-add-mod, add-mul-mod_self_left, one-le-pow, mul_assoc}
+use borrow.Rule.Slice.PartMut.{put_mid}
+use lib.ListN.{length, drop, set, length-append}
+use lib.Seq.{append_snoc, take_at, drop_at, drop-drop}
+use Rattle.laws.proofs.Lists.{drop_stored}
+use Rattle.digits.specs.Digits.{byte_of, digits, word_line, lines_of, too_wide}
 
 -- as many digits as asked for
 pub length_digits : (n v : ℕ) → length (digits n v) ≡ n
@@ -47,58 +48,19 @@ unfolding lines_of
 length_lines [] = refl
 length_lines (w ∷ ws) = omega (arith, length-append (word_line w) (lines_of ws), length_word_line w, length_lines ws)
 
--- nothing left to paste
-pub pasted_none : (s : List ℕ) (at v : ℕ) → pasted s at 0 (digits 0 v) ≡ s
+-- the last digit is stored, and the others are left before it
+pub digit_stored : (s : List ℕ) (k v b : ℕ) → k < length s → b ≡ byte_of (v % 16)
+    → digits k (v / 16) ++ drop k (set s k b) ≡ digits (k + 1) v ++ drop (k + 1) s
 unfolding digits
-pasted_none s at v = rw (add-zero at) (take-append-drop at s)
+digit_stored s k v b h e =
+    rw (drop_stored s k b h, add-one k, e, append_snoc (digits k (v / 16)) (byte_of (v % 16)) (drop (suc k) s))
 
--- the last digit is stored, and the others are pasted before it
-pub pasted_digit : (s : List ℕ) (at k v b : ℕ) → at + k < length s → b ≡ byte_of (v % 16)
-    → pasted (set s (at + k) b) at k (digits k (v / 16)) ≡ pasted s at (k + 1) (digits (k + 1) v)
-unfolding digits
-pasted_digit s at k v b h e =
-    let a : take at (set s (at + k) b) ≡ take at s = take-set-le at s (at + k) b (omega arith) in
-    let d : drop (at + k) (set s (at + k) b) ≡ b ∷ drop (suc (at + k)) s = drop_stored s (at + k) b h in
-    let m : at + (k + 1) ≡ suc (at + k) = omega arith in
-    rw (a, d, m, add-one k, e, append_snoc (digits k (v / 16)) (byte_of (v % 16)) (drop (suc (at + k)) s))
+-- one word's line more behind others
+pub lines_behind : (ws : List ℕ) (w : ℕ) → lines_of (ws ++ (w ∷ [])) ≡ lines_of ws ++ word_line w
+unfolding lines_of
+lines_behind [] w = append-nil (word_line w)
+lines_behind (x ∷ ws) w = ap (λ (l : List ℕ). word_line x ++ l) (lines_behind ws w) ∙ sym (append_assoc (word_line x) (lines_of ws) (word_line w))
 
--- digits written behind what is written already: `s` is the buffer at first, `o` and `p` before and after
-pub pasted_next : (s ys xs o p : List ℕ) (at n : ℕ) → length ys ≡ at
-    → o ≡ ys ++ drop at s → p ≡ pasted o at n xs → p ≡ (ys ++ xs) ++ drop (at + n) s
-pasted_next s ys xs o p at n l a b =
-    let t : take at (ys ++ drop at s) ≡ ys = take_at ys (drop at s) at l in
-    let d : drop (at + n) (ys ++ drop at s) ≡ drop (at + n) s =
-    sym (drop-drop n at (ys ++ drop at s)) ∙ ap (drop n) (drop_at ys (drop at s) at l) ∙ drop-drop n at s in
-    b ∙ rw (a, t, d, append_assoc)
-
--- what is pasted stands behind the bytes before it
-module _ (s xs : List ℕ) (at n : ℕ) (l : length xs ≡ n) (h : at ≤ length s) where
-  laid : pasted s at n xs ≡ (take at s ++ xs) ++ drop (at + n) s
-  laid = sym (append_assoc (take at s) xs (drop (at + n) s))
-
-  long : length (take at s ++ xs) ≡ at + n
-  long = length-append (take at s) xs ∙ omega (arith, length-take-le at s h)
-
-  -- more pasted behind it
-  pub pasted_then : (m : ℕ) (ys : List ℕ) → pasted (pasted s at n xs) (at + n) m ys ≡ pasted s at (n + m) (xs ++ ys)
-  pasted_then m ys =
-      let t : take (at + n) (pasted s at n xs) ≡ take at s ++ xs = rw laid (take_at (take at s ++ xs) (drop (at + n) s) (at + n) long) in
-      let d : drop (at + n) (pasted s at n xs) ≡ drop (at + n) s = rw laid (drop_at (take at s ++ xs) (drop (at + n) s) (at + n) long) in
-      let k : at + n + m ≡ at + (n + m) = omega arith in
-      let e : drop (at + n + m) (pasted s at n xs) ≡ drop (at + (n + m)) s =
-      sym (drop-drop m (at + n) (pasted s at n xs)) ∙ ap (drop m) d ∙ drop-drop m (at + n) s ∙ ap (λ (i : ℕ). drop i s) k in
-      ap (λ (x : List ℕ). x ++ (ys ++ drop (at + n + m) (pasted s at n xs))) t ∙ ap (λ (x : List ℕ). (take at s ++ xs) ++ (ys ++ x)) e
-      ∙ append_assoc (take at s) xs (ys ++ drop (at + (n + m)) s) ∙ ap (λ (x : List ℕ). take at s ++ x) (sym (append_assoc xs ys (drop (at + (n + m)) s)))
-
-  -- one byte stored behind it
-  pub pasted_byte : (b : ℕ) → at + n < length s → set (pasted s at n xs) (at + n) b ≡ pasted s at (n + 1) (xs ++ (b ∷ []))
-  pasted_byte b k =
-      let q : at + n + 1 ≡ at + (n + 1) = omega arith in
-      ap (λ (x : List ℕ). set x (at + n) b) laid ∙ front_next (take at s ++ xs) s (at + n) b long k
-      ∙ ap (λ (x : List ℕ). x ++ drop (at + n + 1) s) (append_assoc (take at s) xs (b ∷ [])) ∙ append_assoc (take at s) (xs ++ (b ∷ [])) (drop (at + n + 1) s)
-      ∙ ap (λ (i : ℕ). take at s ++ ((xs ++ (b ∷ [])) ++ drop i s)) q
-
--- a word's line: eight digits, and LF stored behind them
-pub pasted_line : (s : List ℕ) (at w : ℕ) → at + 9 ≤ length s → set (pasted s at 8 (digits 8 w)) (at + 8) 10 ≡ pasted s at 9 (word_line w)
-unfolding word_line
-pasted_line s at w h = pasted_byte s (digits 8 w) at 8 (length_digits 8 w) (omega arith) 10 (omega arith)
+-- a part written behind the bytes p at the front of a list
+pub part_next : (p s xs : List ℕ) (at n : ℕ) → length p ≡ at → put_mid at n (p ++ drop at s) xs ≡ (p ++ xs) ++ drop (at + n) s
+part_next p s xs at n l = rw (take_at p (drop at s) at l, drop_at p (drop at s) at l, drop-drop n at s, append_assoc)

@@ -48,10 +48,6 @@ DigitValues ds = (k : ℕ) → get_or ds k 0 ≤ 15
 unfoldable pub value_of : ℕ → ℕ
 value_of b = cond (ltb 15 (digit_of b)) 4294967296 (digit_of b)
 
--- A table of those values.
-unfoldable pub Values : List ℕ → Type 0
-Values t = (b : ℕ) → b < 256 → get_or t b 0 ≡ value_of b
-
 abbrev pub line_word : Digits → Option ℕ
 line_word (value v) = Some v
 line_word none = None

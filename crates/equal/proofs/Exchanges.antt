@@ -7,14 +7,15 @@ use mathlib.Core.Bool.{Bool, true, false, false≢true}
 use mathlib.Core.List.{List}
 use borrow.Author.Tests.{eqb-true, eq-eqb}
 use lib.Dec.{eqb}
-use Rattle.laws.proofs.Logic.{never}
+use Rattle.laws.proofs.Logic.{by_test}
 use Rattle.frame.specs.Frame.{decode_word}
 use Rattle.soundness.specs.Soundness.{check_reply}
 use Rattle.exchange.proofs.Exchange.{exchanges_length}
 use Rattle.exchange.proofs.Frames.{apart, sound_all_decode, words_apart, apart_words}
 use Rattle.exchange.proofs.Pull.{pull_exchanges, exchanges_pull}
 use Rattle.exchange.specs.Exchange.{Exchanges, independent_in, independent_words}
-use Rattle.equal.specs.Equal.{sound, equal_words, yes_or_no, equal_reply, EqualIsExchanges, EqualIsYesOrNo, LengthsDiffer}
+use Rattle.equal.specs.Equal.{sound, equal_words, equal_reply, EqualIsExchanges, EqualIsYesOrNo, LengthsDiffer}
+use Rattle.equal.specs.declared.RefusedSide.{RefusedSide}
 use Rattle.frame.specs.declared.Refusal.{Refusal}
 use Rattle.frame.specs.declared.Frame.{Frame}
 
@@ -31,19 +32,15 @@ equal_exchanges l r e = pull_exchanges independent_words eqb eqb-true (λ w. eq-
 pub exchanges_equal : (l r : List ℕ) → Exchanges independent_words l r → equal_words l r ≡ true
 exchanges_equal l r x = exchanges_pull independent_words eqb eqb-true (λ w. eq-eqb w w refl) never_itself l r x
 
--- the comparison's answer to sound recordings, by exchanges of words whose frames are independent
-pub yes : (l r : List ℕ) → check_reply l ≡ sound → Exchanges apart l r → Ok true ≡ yes_or_no (equal_words l r)
-yes l r p x = rw (exchanges_equal l r (apart_words (sound_all_decode l p) x))
+-- whether sound recordings are equal, by exchanges of words whose frames are independent
+pub yes : (l r : List ℕ) → check_reply l ≡ sound → Exchanges apart l r → equal_words l r ≡ true
+yes l r p x = exchanges_equal l r (apart_words (sound_all_decode l p) x)
 
-pub no : (l r : List ℕ) → (Exchanges apart l r → ⊥) → Ok false ≡ yes_or_no (equal_words l r)
-no l r n = go (equal_words l r) refl
-  where
-    go : (b : Bool) → equal_words l r ≡ b → Ok false ≡ yes_or_no b
-    go true e = absurd (n (words_apart (equal_exchanges l r e)))
-    go false e = refl
+pub no : (l r : List ℕ) → (Exchanges apart l r → ⊥) → equal_words l r ≡ false
+no l r n = by_test (equal_words l r) (λ e. absurd (n (words_apart (equal_exchanges l r e)))) (λ e. e)
 
 -- the answer to sound recordings
-answered : (l r : List ℕ) → check_reply l ≡ sound → check_reply r ≡ sound → equal_reply l r ≡ yes_or_no (equal_words l r)
+answered : (l r : List ℕ) → check_reply l ≡ sound → check_reply r ≡ sound → equal_reply l r ≡ Ok (equal_words l r)
 answered l r p q = rw (p, q)
 
 -- "Equality is yes or no"
@@ -57,10 +54,9 @@ equal_is_exchanges l r p q = (
   λ x. answered l r p q ∙ rw (exchanges_equal l r x),
 )
   where
-    is_yes : (b : Bool) → yes_or_no b ≡ Ok true → b ≡ true
-    is_yes true e = refl
-    is_yes false e = never (cc)
+    is_yes : (b : Bool) → ◌≡◌ {A = Result Bool RefusedSide} (Ok b) (Ok true) → b ≡ true
+    is_yes b e = cc
 
 -- "recordings of different length are not equal"
 pub lengths_differ : LengthsDiffer
-lengths_differ l r p q n = answered l r p q ∙ sym (no l r (λ x. n (exchanges_length apart x)))
+lengths_differ l r p q n = answered l r p q ∙ rw (no l r (λ x. n (exchanges_length apart x)))

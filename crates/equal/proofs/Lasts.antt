@@ -7,7 +7,7 @@ use mathlib.Core.List.{List}
 use native.Mathlib.Omega.{arith}
 use borrow.Author.Tests.{eqb-true}
 use lib.Dec.{eqb}
-use lib.ListN.{length, get_or, set, replicate, length-set}
+use lib.ListN.{length, get_or, set, length-set}
 use Rattle.frame.specs.Limits.{lock_count, variable_count}
 use Rattle.laws.proofs.Lists.{get_or_filled, get_or_stored}
 use Rattle.frame.specs.Frame.{ObjectInRange}
@@ -15,12 +15,11 @@ use Rattle.frame.specs.declared.Lock.{Lock}
 use Rattle.frame.specs.declared.Action.{Action}
 use Rattle.frame.specs.declared.Action.TheVariants.{Acquire, Release, Read, Write, Begin, End}
 use Rattle.exchange.specs.Independent.{clash}
-use Rattle.matching.specs.Places.{Lasts, lasts_of, last_at, with_last}
-
-abbrev pub no_lasts : Lasts
-no_lasts = lasts_of (replicate lock_count 0) (replicate variable_count 0) (replicate variable_count 0)
+use Rattle.matching.specs.declared.Lasts.{Lasts}
+use Rattle.matching.specs.Places.{lasts_of, no_lasts, last_at, with_last}
 
 pub none_last : (a : Action) → last_at a no_lasts ≡ 0
+unfolding no_lasts
 none_last (Acquire m) = get_or_filled lock_count m.0 0
 none_last (Release m) = get_or_filled lock_count m.0 0
 none_last (Read x) = get_or_filled variable_count x.0 0
@@ -36,6 +35,7 @@ pub record Kept (c : Lasts) : Type 0 where
   pub written : (x : ℕ) → get_or c.writes x 0 ≤ get_or c.accesses x 0
 
 pub kept_start : Kept no_lasts
+unfolding no_lasts
 kept_start = record { locks = refl; writes = refl; accesses = refl; written = λ x. omega arith }
 
 -- The least number that is not below x and above p.

@@ -2,3 +2,4 @@
 pub mod Exchanges
 pub mod Lasts
 pub mod Walk
+mod Sides

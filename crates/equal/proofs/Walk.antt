@@ -21,10 +21,11 @@ use Rattle.exchange.proofs.Match.{Raised, rest, Well, Fits, rest_all, well_start
 use Rattle.exchange.specs.Independent.{clash}
 use Rattle.exchange.specs.Exchange.{Exchanges, frame_in, frame_of}
 use Rattle.soundness.specs.Soundness.{check_reply}
-use Rattle.equal.specs.Equal.{sound, equal_words, yes_or_no}
-use Rattle.matching.specs.Places.{thread_of, word_at, FoundIn, Lasts, last_at, with_last}
+use Rattle.equal.specs.Equal.{sound, equal_words}
+use Rattle.matching.specs.declared.Lasts.{Lasts}
+use Rattle.matching.specs.Places.{thread_of, word_at, FoundIn, no_lasts, last_at, with_last}
 use Rattle.equal.proofs.Exchanges.{yes, no}
-use Rattle.equal.proofs.Lasts.{no_lasts, none_last, Kept, kept_start, raised, kept_on}
+use Rattle.equal.proofs.Lasts.{none_last, Kept, kept_start, raised, kept_on}
 
 -- The arrays as functions of threads and of words.
 abbrev next_in : List ℕ → ℕ → ℕ
@@ -55,7 +56,7 @@ walk_start l r e = record {
   kept = kept_start;
 }
 
-pub walk_end : {l r : List ℕ} {i : ℕ} {ns : List ℕ} {c : Lasts} → check_reply l ≡ sound → Walking l r i ns c → length l ≤ i → Ok true ≡ yes_or_no (equal_words l r)
+pub walk_end : {l r : List ℕ} {i : ℕ} {ns : List ℕ} {c : Lasts} → check_reply l ≡ sound → Walking l r i ns c → length l ≤ i → equal_words l r ≡ true
 walk_end {l} {r} {i} {ns} {c} p k h =
     yes l r p (k.same.0 (rw (drop_of_length-le l h) (well_end thread_of clashing (word_at r) (length r) (next_in ns) (last_in c) (omega (arith, k.left)))))
 
@@ -77,13 +78,13 @@ module _ {l r : List ℕ} {i : ℕ} {ns : List ℕ} {c : Lasts} (k : Walking l r
   fits : Exchanges apart l r → Fit
   fits x = well_fits thread_of clashing (word_at r) (length r) (next_in ns) (last_in c) (word_at l i) p here (drop (suc i) l) (rw opened at (k.same.1 x))
 
-  pub missing : p ≡ length r → Ok false ≡ yes_or_no (equal_words l r)
+  pub missing : length r ≤ p → equal_words l r ≡ false
   missing q = no l r (λ x. omega (arith, (fits x).inside))
 
-  pub words_differ : (word_at r p ≡ word_at l i → ⊥) → Ok false ≡ yes_or_no (equal_words l r)
+  pub words_differ : (word_at r p ≡ word_at l i → ⊥) → equal_words l r ≡ false
   words_differ q = no l r (λ x. q (sym (fits x).is))
 
-  pub too_early : p + 1 ≤ last_at f.action c → Ok false ≡ yes_or_no (equal_words l r)
+  pub too_early : p + 1 ≤ last_at f.action c → equal_words l r ≡ false
   too_early q = no l r (λ x. omega (arith, (fits x).after, rw is at q))
 
   range : InRange (frame_of (word_at l i))
@@ -108,7 +109,6 @@ module _ {l r : List ℕ} {i : ℕ} {ns : List ℕ} {c : Lasts} (k : Walking l r
     kept = kept_on p c k.kept (frame_of (word_at l i)).action range.object;
   }
 
-  pub go_on : {c' : Lasts} → (p ≡ length r → ⊥) → word_at r p ≡ word_at l i → last_at f.action c < p + 1 → c' ≡ with_last f.action (p + 1) c
+  pub go_on : {c' : Lasts} → p < length r → word_at r p ≡ word_at l i → last_at f.action c < p + 1 → c' ≡ with_last f.action (p + 1) c
       → Walking l r (i + 1) (set ns f.thread.0 (p + 1)) c'
-  go_on n q b u =
-      rw (u, is, add-one i, add-one p) (turn (record { inside = omega (arith, n, found.within); is = sym q; after = omega (arith, rw is at b) }))
+  go_on h q b u = rw (u, is, add-one i, add-one p) (turn (record { inside = h; is = sym q; after = omega (arith, rw is at b) }))

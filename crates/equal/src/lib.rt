@@ -4,9 +4,10 @@
 
 ghost use Rattle.std.specs.Prelude.{◌≡◌};
 ghost use Rattle.soundness.specs.Soundness.{check_reply};
-ghost use Rattle.equal.specs.Equal.{sound, equal_words, yes_or_no, equal_reply};
+ghost use Rattle.equal.specs.Equal.{sound, equal_words, refusal_of, equal_reply};
 
-use frame::{Frame, LOCKS, Refused, THREADS, VARIABLES};
+use frame::{Frame, Refused, THREADS};
+use matching::Lasts;
 
 #[derive(Clone, Copy)]
 pub enum Side {
@@ -21,49 +22,42 @@ pub struct RefusedSide {
     pub refused: Refused,
 }
 
+impl Side {
+    fn refusal(self, refused: Refused) -> RefusedSide
+        ensures { result ≡ refusal_of self refused }
+    {
+        RefusedSide {
+            side: self,
+            refused,
+        }
+    }
+}
+
 // Whether two sound recordings are equal. Each frame of the left is matched with the next of its thread in the right. These must be the
 // same, and two frames that clash must be matched in the same order. A word that is no frame is refused; the check before has found none.
 fn same(left: &[u32], right: &[u32]) -> Result<bool, RefusedSide>
-    requires fact_1 { check_reply left.now ≡ sound }
-    requires fact_2 { check_reply right.now ≡ sound }
-    ensures { result ≡ yes_or_no (equal_words left.now right.now) }
+    requires left_sound { check_reply left.now ≡ sound }
+    requires right_sound { check_reply right.now ≡ sound }
+    ensures { result ≡ Ok (equal_words left.now right.now) }
 {
     if left.len() != right.len() {
         return Ok(false);
     }
-    let mut next = [0usize; THREADS];
-    let mut locks = [0u32; LOCKS];
-    let mut writes = [0u32; VARIABLES];
-    let mut accesses = [0u32; VARIABLES];
-    let mut i: usize = 0;
-    while i < left.len() {
-        let w = left[i];
-        let d = Frame::try_from(w);
-        let Ok(f) = d else {
-            return Err(RefusedSide {
-                side: Side::Left,
-                refused: Refused {
-                    reason: frame::refusal_of(d),
-                    place: i as u32,
-                },
-            });
+    let mut next = [0; THREADS];
+    let mut lasts = Lasts::new();
+    for i in 0..left.len() {
+        let frame = Frame::at(left, i).map_err(|refused| Side::Left.refusal(refused))?;
+        let t = usize::from(frame.thread.0);
+        let Some(place) = matching::find(right, next[t], frame.thread) else {
+            return Ok(false);
         };
-        let thread = f.thread;
-        let t = thread.0 as usize;
-        let p = matching::find(right, next[t], thread);
-        if p == right.len() {
+        if right[place] != left[i] {
             return Ok(false);
         }
-        if right[p] != w {
+        if !lasts.note(frame.action, (place + 1) as u32) {
             return Ok(false);
         }
-        let a = f.action;
-        let q = (p + 1) as u32;
-        if !matching::note_last(&mut locks, &mut writes, &mut accesses, a, q) {
-            return Ok(false);
-        }
-        next[t] = p + 1;
-        i += 1;
+        next[t] = place + 1;
     }
     Ok(true)
 }
@@ -72,19 +66,7 @@ fn same(left: &[u32], right: &[u32]) -> Result<bool, RefusedSide>
 pub fn equal(left: &[u32], right: &[u32]) -> Result<bool, RefusedSide>
     ensures { result ≡ equal_reply left.now right.now }
 {
-    let l = quick::check(left);
-    if let Err(x) = l {
-        return Err(RefusedSide {
-            side: Side::Left,
-            refused: x,
-        });
-    }
-    let r = quick::check(right);
-    if let Err(x) = r {
-        return Err(RefusedSide {
-            side: Side::Right,
-            refused: x,
-        });
-    }
+    quick::check(left).map_err(|refused| Side::Left.refusal(refused))?;
+    quick::check(right).map_err(|refused| Side::Right.refusal(refused))?;
     same(left, right)
 }

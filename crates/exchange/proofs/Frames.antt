@@ -1,11 +1,12 @@
 -- The words of a sound recording decode, so its frames stand for them: each is in its ranges, and its word is the recording's. Exchanges of
 -- words are exchanges of frames.
 use Rattle.std.specs.Prelude.{Result, Ok, Err}
-use Prim.Native.Nat.{ℕ, zero, suc, ◌+◌, ◌<◌}
+use Rattle.std.specs.List.{AllByRecursion}
+use Rattle.std.proofs.lemmas.List.Elements.{All-get_or, All-from_recursion}
+use Prim.Native.Nat.{ℕ, ◌+◌, ◌<◌}
 use mathlib.Core.Path.{◌≡◌, refl, sym, ◌∙◌, subst}
 use mathlib.Core.Bool.{Bool, true, false≢true}
 use mathlib.Core.List.{List, [], ◌∷◌, map}
-use native.Mathlib.Omega.{arith}
 use lib.ListN.{length, get_or}
 use Rattle.frame.proofs.Laws.{decoded_in_range, encode_decode, decode_encode}
 use Rattle.frame.specs.Frame.{decode_word, encode_frame, InRange}
@@ -31,8 +32,7 @@ pub frame_word : (w : ℕ) → Decodes w → encode_frame (frame_of w) ≡ w
 frame_word w d = encode_decode w (frame_of w) d
 
 abbrev pub AllDecode : List ℕ → Type 0
-AllDecode [] = Unit {0}
-AllDecode (w ∷ ws) = Decodes w × AllDecode ws
+AllDecode ws = AllByRecursion Decodes ws
 
 all_decode : (i : ℕ) (s : State) (ws : List ℕ) → (check_from i s ws).reply ≡ (Ok tt) → AllDecode ws
 unfolding check_from
@@ -44,13 +44,8 @@ all_decode i s (w ∷ ws) e =
 pub sound_all_decode : (ws : List ℕ) → check_reply ws ≡ (Ok tt) → AllDecode ws
 sound_all_decode ws e = all_decode 0 start ws (sym (check_short ws (sound_fits ws e)) ∙ e)
 
-decodes_at : (ws : List ℕ) → AllDecode ws → (i : ℕ) → i < length ws → Decodes (get_or ws i 0)
-decodes_at [] d i h = absurd (omega arith)
-decodes_at (w ∷ ws) d zero h = d.0
-decodes_at (w ∷ ws) d (suc i) h = decodes_at ws d.1 i (omega arith)
-
 pub sound_decodes : (ws : List ℕ) → check_reply ws ≡ (Ok tt) → (i : ℕ) → i < length ws → Decodes (get_or ws i 0)
-sound_decodes ws e = decodes_at ws (sound_all_decode ws e)
+sound_decodes ws e i h = All-get_or Decodes ws i 0 h (All-from_recursion Decodes ws (sound_all_decode ws e))
 
 -- Two words whose frames are independent.
 abbrev pub apart : ℕ → ℕ → Bool
@@ -81,11 +76,7 @@ pub apart_words : {l r : List ℕ} → AllDecode l → Exchanges apart l r → E
 apart_words d done = done
 apart_words d (step e x) = let q = apart_exchange d e in step q.0 (apart_words q.1 x)
 
-abbrev AllInRange : List Frame → Type 0
-AllInRange [] = Unit {0}
-AllInRange (f ∷ fs) = InRange f × AllInRange fs
-
-all_in_range : (ws : List ℕ) → AllDecode ws → AllInRange (frames_of ws)
+all_in_range : (ws : List ℕ) → AllDecode ws → AllByRecursion InRange (frames_of ws)
 all_in_range [] d = tt
 all_in_range (w ∷ ws) d = (frame_in_range w d.0, all_in_range ws d.1)
 
@@ -93,13 +84,13 @@ frames_back : (ws : List ℕ) → AllDecode ws → map encode_frame (frames_of w
 frames_back [] d = refl
 frames_back (w ∷ ws) d = λ i. frame_word w d.0 i ∷ frames_back ws d.1 i
 
-exchange_words : {l r : List Frame} → AllInRange l → Exchange independent l r → Exchange apart (map encode_frame l) (map encode_frame r) × AllInRange r
+exchange_words : {l r : List Frame} → AllByRecursion InRange l → Exchange independent l r → Exchange apart (map encode_frame l) (map encode_frame r) × AllByRecursion InRange r
 exchange_words p (here {f = f} {g = g} i) =
     let h : apart (encode_frame f) (encode_frame g) ≡ true = rw (decode_encode f p.0, decode_encode g p.1.0) i in
     (here h, (p.1.0, (p.0, p.1.1)))
 exchange_words p (later e) = let q = exchange_words p.1 e in (later q.0, (p.0, q.1))
 
-exchanges_words : {l r : List Frame} → AllInRange l → Exchanges independent l r → Exchanges apart (map encode_frame l) (map encode_frame r)
+exchanges_words : {l r : List Frame} → AllByRecursion InRange l → Exchanges independent l r → Exchanges apart (map encode_frame l) (map encode_frame r)
 exchanges_words p done = done
 exchanges_words p (step e x) = let q = exchange_words p e in step q.0 (exchanges_words q.1 x)
 

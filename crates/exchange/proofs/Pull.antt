@@ -4,12 +4,12 @@ use Prim.Native.Nat.{suc}
 use mathlib.Core.Path.{◌≡◌, refl, sym, ap, subst}
 use mathlib.Core.Bool.{Bool, true, false, cond, false≢true}
 use mathlib.Core.List.{List, [], ◌∷◌}
-use mathlib.Core.Option.{Option, none, some}
+use Rattle.std.specs.Prelude.{Option, Some, None, option_map}
 use native.Mathlib.Omega.{arith}
 use lib.ListN.{length}
 use Rattle.laws.proofs.Logic.{never}
 use Rattle.exchange.specs.Exchange.{Exchange, here, later, Exchanges, done, step}
-use Rattle.exchange.specs.Pull.{behind, if_pulled, pull, pull_all}
+use Rattle.exchange.specs.Pull.{if_pulled, pull, pull_all}
 use Rattle.exchange.proofs.Exchange.{transitive, first, exchanges_length}
 
 module _ {A : Type 0} (independent : A → A → Bool) where
@@ -53,25 +53,25 @@ module _ {A : Type 0} (independent : A → A → Bool) where
 
   -- The test says whether two elements are the same, and no element is independent of itself.
   module _ (same : A → A → Bool) (same-yes : (f g : A) → same f g ≡ true → f ≡ g) (same_self : (f : A) → same f f ≡ true) (never_itself : (f : A) → independent f f ≡ true → ⊥) where
-    pull_pulled : (f : A) (l r : List A) → pull same independent f l ≡ some r → Pulled f l r
+    pull_pulled : (f : A) (l r : List A) → pull same independent f l ≡ Some r → Pulled f l r
     unfolding pull
     pull_pulled f [] r e = never (cc)
     pull_pulled f (g ∷ l) r e = go (same f g) (independent f g) refl refl (pull same independent f l) (pull_pulled f l) e
       where
-        go : (a b : Bool) → same f g ≡ a → independent f g ≡ b → (o : Option (List A)) → ((m : List A) → o ≡ some m → Pulled f l m)
-            → cond a (some l) (cond b (behind g o) none) ≡ some r → Pulled f (g ∷ l) r
+        go : (a b : Bool) → same f g ≡ a → independent f g ≡ b → (o : Option (List A)) → ((m : List A) → o ≡ Some m → Pulled f l m)
+            → cond a (Some l) (cond b (option_map (λ z. g ∷ z) o) None) ≡ Some r → Pulled f (g ∷ l) r
         go true b p q o ih h = let z : l ≡ r = cc in subst (Pulled f (g ∷ l)) z (found (same-yes f g p))
-        go false true p q (some m) ih h = let z : g ∷ m ≡ r = cc in subst (Pulled f (g ∷ l)) z (past q (ih m refl))
-        go false true p q none ih h = never (cc)
+        go false true p q (Some m) ih h = let z : g ∷ m ≡ r = cc in subst (Pulled f (g ∷ l)) z (past q (ih m refl))
+        go false true p q None ih h = never (cc)
         go false false p q o ih h = never (cc)
 
-    pulled_pull : {f : A} {l r : List A} → Pulled f l r → pull same independent f l ≡ some r
+    pulled_pull : {f : A} {l r : List A} → Pulled f l r → pull same independent f l ≡ Some r
     unfolding pull
     pulled_pull {f} (found {g} {l} e) = rw (subst (λ z. same f z ≡ true) e (same_self f))
     pulled_pull {f} (past {g} {l} {r} i p) = go (same f g) refl (pulled_pull p)
       where
-        go : (a : Bool) → same f g ≡ a → pull same independent f l ≡ some r
-            → cond a (some l) (cond (independent f g) (behind g (pull same independent f l)) none) ≡ some (g ∷ r)
+        go : (a : Bool) → same f g ≡ a → pull same independent f l ≡ Some r
+            → cond a (Some l) (cond (independent f g) (option_map (λ z. g ∷ z) (pull same independent f l)) None) ≡ Some (g ∷ r)
         go true q ih = absurd (never_itself f (subst (λ z. independent f z ≡ true) (sym (same-yes f g q)) i))
         go false q ih = rw (i, ih)
 
@@ -83,8 +83,8 @@ module _ {A : Type 0} (independent : A → A → Bool) where
       where
         go : (o : Option (List A)) → pull same independent f r ≡ o → if_pulled o (pull_all same independent l) ≡ true
             → ((m : List A) → pull_all same independent l m ≡ true → Exchanges independent l m) → Exchanges independent (f ∷ l) r
-        go none q h ih = absurd (false≢true h)
-        go (some m) q h ih = transitive independent (first independent (ih m h)) (pulled_exchanges (pull_pulled f r m q))
+        go None q h ih = absurd (false≢true h)
+        go (Some m) q h ih = transitive independent (first independent (ih m h)) (pulled_exchanges (pull_pulled f r m q))
 
     pub exchanges_pull : (l r : List A) → Exchanges independent l r → pull_all same independent l r ≡ true
     unfolding pull_all

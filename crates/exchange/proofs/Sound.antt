@@ -10,9 +10,9 @@ use lib.ListN.{get_or, set}
 use native.Mathlib.Omega.{arith}
 use lib.Seq.{get_or-set_other, set-get_or, set_comm}
 use borrow.Author.Tests.{eq-eqb, ne_eqb, le-leb, lt-leb, eqb-false, not-true}
+use Rattle.std.proofs.lemmas.Bool.{and_parts}
 use Rattle.laws.proofs.Lists.{set_twice}
 use Rattle.frame.specs.Limits.{most_frames, deepest, most_held}
-use Rattle.laws.proofs.Logic.{never}
 use Rattle.frame.specs.Frame.{decode_word}
 use Rattle.frame.specs.declared.Action.{Action}
 use Rattle.frame.specs.declared.Action.TheVariants.{Acquire, Release, Read, Write, Begin, End}
@@ -143,11 +143,6 @@ back none (lock k ok' o' c') a = tt
 back none (depth u ok' to') a = tt
 back none none a = tt
 
-both : (x y : Bool) → not x && not y ≡ true → (x ≡ false) × (y ≡ false)
-both true y e = never (cc)
-both false true e = never (cc)
-both false false e = (refl, refl)
-
 -- independent frames touch different cells
 cells : (t u : ℕ) (a b : Action) → (t ≡ u → ⊥) → clash a b ≡ false → Apart (cell_of t a) (cell_of u b)
 cells t u (Acquire l) (Acquire k) n e = λ z. eqb-false l.0 k.0 e (sym z)
@@ -208,7 +203,7 @@ turn f g s n k i a b = record {
     q = cell_of u g.action
 
     apart : (eqb t u ≡ false) × (clash f.action g.action ≡ false)
-    apart = both (eqb t u) (clash f.action g.action) i
+    apart = let z = and_parts _ _ i in (not-true _ z.0, not-true _ z.1)
 
     c : Apart p q
     c = cells t u f.action g.action (eqb-false t u apart.0) apart.1

@@ -4,7 +4,7 @@
 
 ghost use Rattle.std.specs.Prelude.{◌≡◌, get_or};
 ghost use Rattle.frame.specs.Frame.{decode_word};
-ghost use Rattle.facts.specs.Facts.{place_of, thread_in, place_facts, violation_facts};
+ghost use Rattle.facts.specs.Facts.{thread_in, place_facts, violation_facts};
 
 use frame::{Frame, Refusal, Thread};
 use phrase::Source;
@@ -15,28 +15,15 @@ use sentence::Facts;
 fn frame_at(words: &[u32], place: u32) -> Result<Frame, Refusal>
     ensures { result ≡ decode_word (get_or words.now place 0) }
 {
-    let i = place as usize;
-    if i < words.len() {
-        return Frame::try_from(words[i]);
-    }
-    Frame::try_from(0)
+    Frame::try_from(words.get(place as usize).copied().unwrap_or(0))
 }
 
-fn thread_of(d: Result<Frame, Refusal>) -> Thread
-    ensures { result ≡ thread_in d }
+fn thread_of(decoded: Result<Frame, Refusal>) -> Thread
+    ensures { result ≡ thread_in decoded }
 {
-    let Ok(f) = d else {
-        return Thread(0);
-    };
-    f.thread
-}
-
-fn place_of(m: Option<u32>) -> u32
-    ensures { result ≡ place_of m }
-{
-    match m {
-        Some(i) => i,
-        None => 0,
+    match decoded {
+        Ok(frame) => frame.thread,
+        Err(_) => Thread(0),
     }
 }
 
@@ -44,12 +31,12 @@ fn place_of(m: Option<u32>) -> u32
 pub fn place_facts(source: Source, words: &[u32], place: u32) -> Facts
     ensures { result ≡ place_facts source words.now place }
 {
-    let d = frame_at(words, place);
+    let frame = frame_at(words, place);
     Facts {
-        source: source,
-        place: place,
-        frame: d,
-        thread: thread_of(d),
+        source,
+        place,
+        frame,
+        thread: thread_of(frame),
         begin: 0,
         commit: 0,
         by: Err(Refusal::Operation),
@@ -58,21 +45,18 @@ pub fn place_facts(source: Source, words: &[u32], place: u32) -> Facts
 }
 
 // What is known of a violation.
-pub fn violation_facts(source: Source, words: &[u32], v: Violation) -> Facts
-    ensures { result ≡ violation_facts source words.now v }
+pub fn violation_facts(source: Source, words: &[u32], violation: Violation) -> Facts
+    ensures { result ≡ violation_facts source words.now violation }
 {
-    let begin = v.begin;
-    let commit = v.commit;
-    let thread = v.thread;
-    let c = place_of(commit);
+    let commit = violation.commit.unwrap_or(0);
     Facts {
-        source: source,
-        place: v.frame,
-        frame: frame_at(words, v.frame),
-        thread: thread,
-        begin: place_of(begin),
-        commit: c,
-        by: frame_at(words, c),
-        locks: v.locks,
+        source,
+        place: violation.frame,
+        frame: frame_at(words, violation.frame),
+        thread: violation.thread,
+        begin: violation.begin.unwrap_or(0),
+        commit,
+        by: frame_at(words, commit),
+        locks: violation.locks,
     }
 }

@@ -1,14 +1,14 @@
 -- Laws of the digits that stand first on a line: where they end, and one column further.
-use Prim.Native.Nat.{ℕ, zero, suc, ◌+◌, ◌-◌, ◌≤◌, ◌<◌}
-use mathlib.Core.Path.{◌≡◌, refl}
+use Prim.Native.Nat.{ℕ, zero, suc, ◌-◌, ◌≤◌}
+use mathlib.Core.Path.{◌≡◌, refl, ap, ◌∙◌}
 use mathlib.Core.Bool.{Bool, true, false, cond}
 use mathlib.Core.List.{List, [], ◌∷◌}
 use native.Mathlib.Omega.{arith}
-use native.Mathlib.Numerals.{add-one}
+use native.Mathlib.Numerals.{one-add}
 use borrow.Author.Tests.{lt-ltb, ltb-true}
 use lib.Dec.{ltb}
-use lib.ListN.{length, drop, get_or, drop_of_length-le}
-use lib.Seq.{drop-cons}
+use lib.ListN.{take}
+use Rattle.std.specs.List.{prefix_len}
 use Rattle.fault.specs.Fault.{is_digit, leading}
 
 -- the last of the digits, a capital letter or none
@@ -29,36 +29,9 @@ leading_most (suc n) (b ∷ t) = go (is_digit b) (leading_most n t)
     go true h = omega arith
     go false h = omega arith
 
-leading_none : (n : ℕ) → leading n [] ≡ 0
+-- they are the digits that stand first among the first n bytes
+pub leading_prefix : (n : ℕ) (t : List ℕ) → prefix_len is_digit (take n t) ≡ leading n t
 unfolding leading
-leading_none zero = refl
-leading_none (suc n) = refl
-
--- the first c bytes are digits
-module _ (t : List ℕ) (c : ℕ) (e : leading 8 t ≡ c + leading (8 - c) (drop c t)) where
-  -- the line ends there
-  pub leading_end : length t ≤ c → c ≡ leading 8 t
-  leading_end l =
-      let d : drop c t ≡ [] = drop_of_length-le t {i = c} l in
-      let z : leading (8 - c) (drop c t) ≡ 0 = rw d (leading_none (8 - c)) in omega (arith, e, z)
-
-  -- they are eight
-  pub leading_all : 8 ≤ c → c ≡ leading 8 t
-  unfolding leading
-  leading_all h = let q : 8 - c ≡ 0 = omega arith in let x : leading 8 t ≡ c + 0 = rw q at e in omega (arith, x)
-
-  module _ (h : c < 8) (l : c < length t) where
-    split : leading 8 t ≡ c + leading (suc (8 - (c + 1))) (get_or t c 0 ∷ drop (c + 1) t)
-    split =
-        let q : 8 - c ≡ suc (8 - (c + 1)) = omega arith in
-        let d : drop c t ≡ get_or t c 0 ∷ drop (c + 1) t = rw (add-one c) (drop-cons t c 0 l) in rw (q, d) at e
-
-    -- the next byte is one
-    pub leading_next : is_digit (get_or t c 0) ≡ true → leading 8 t ≡ (c + 1) + leading (8 - (c + 1)) (drop (c + 1) t)
-    unfolding leading
-    leading_next b = let x : leading 8 t ≡ c + suc (leading (8 - (c + 1)) (drop (c + 1) t)) = rw b at split in omega (arith, x)
-
-    -- the next byte is none
-    pub leading_stops : is_digit (get_or t c 0) ≡ false → c ≡ leading 8 t
-    unfolding leading
-    leading_stops b = let x : leading 8 t ≡ c + 0 = rw b at split in omega (arith, x)
+leading_prefix zero t = refl
+leading_prefix (suc n) [] = refl
+leading_prefix (suc n) (b ∷ t) = ap (λ k. cond (is_digit b) k 0) (one-add _ ∙ ap suc (leading_prefix n t))

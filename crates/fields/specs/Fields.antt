@@ -1,6 +1,6 @@
 -- Verdict lines read into their fields, and fields written as a line. In this order: which kinds a line may have, a line read, a line written.
 -- Quotes are from docs/FORMAT.md.
-use Rattle.std.specs.Prelude.{ℕ, Bool, true, cond, List, ltb, eqb, length, get_or, take, drop, replicate, Result, Ok, Err}
+use Rattle.std.specs.Prelude.{ℕ, Bool, true, cond, List, ltb, eqb, length, get_or, take, drop, Result, Ok, Err}
 use Rattle.frame.specs.Refusal.{refused_at}
 use Rattle.frame.specs.declared.Refused.{Refused}
 use Rattle.frame.specs.declared.Refusal.TheVariants as refusal

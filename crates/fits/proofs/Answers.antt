@@ -8,7 +8,7 @@ use mathlib.Core.List.{List, [], ◌++◌}
 use native.Mathlib.Omega.{arith}
 use lib.Dec.{eqb, ltb, leb}
 use lib.ListN.{length, get_or, drop}
-use Rattle.frame.specs.Refusal.{refusal_number, refused_at}
+use Rattle.frame.specs.Refusal.{refusals, refusal_by, refusal_number, refused_at}
 use Rattle.frame.specs.declared.Refusal.{Refusal}
 use Rattle.frame.specs.declared.Refusal.TheVariants as refusal
 use Rattle.frame.specs.declared.Refused.{Refused}
@@ -32,9 +32,10 @@ use Rattle.facts.specs.Facts.{place_facts, violation_facts}
 use Rattle.linefault.specs.LineFault.{line_fault, fault_sentence, column_text, fault_from, line_fault_text, refused_text}
 use Rattle.fault.specs.Fault.{leading, fault_of}
 use Rattle.fields.specs.Fields.{line_fields}
-use Rattle.kept.specs.Kept.{refusals, refusal_by, kept_reply}
+use Rattle.kept.specs.Kept.{kept_reply}
 use Rattle.linereport.specs.LineReport.{source_of, other_text, kept_text, line_read}
-use Rattle.refusalreport.specs.RefusalReport.{source_named, numbered_text}
+use Rattle.phrase.specs.Phrase.{source_named}
+use Rattle.refusalreport.specs.RefusalReport.{numbered_text}
 use Rattle.fits.specs.Fits.{most_text, TextsFit}
 use Rattle.fault.specs.declared.Fault.{Fault}
 use Rattle.fault.specs.declared.Fault.TheVariants as fault

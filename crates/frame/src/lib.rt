@@ -3,7 +3,7 @@
 
 #![tactic(auto)]
 
-ghost use Rattle.std.specs.Prelude.{◌≡◌, ◌<◌, true, length};
+ghost use Rattle.std.specs.Prelude.{◌≡◌, ◌≤◌, ◌<◌, true, length};
 ghost use Rattle.frame.specs.Frame.{object_fits, action_of, decode_word, frame_at, split_word, encode_frame, word_of};
 ghost use Rattle.frame.specs.Refusal.{refusal_number, refused_at, refusal_named};
 
@@ -137,18 +137,30 @@ fn object_fits(op: u32, object: u32) -> bool
     }
 }
 
-// The action of an operation 1 to 6 with its object.
+// The action of an operation 1 to 6 with its object. By tests two by two: a `match` on the operation is slower.
 fn action_of(op: u32, object: u32) -> Action
-    requires { object_fits op object ≡ true }
+    requires low { 1 ≤ op }
+    requires fits { object_fits op object ≡ true }
     ensures { result ≡ action_of op object }
 {
-    match op {
-        1 => Action::Acquire(Lock(object as u8)),
-        2 => Action::Release(Lock(object as u8)),
-        3 => Action::Read(Variable(object as u16)),
-        4 => Action::Write(Variable(object as u16)),
-        5 => Action::Begin,
-        _ => Action::End,
+    if op <= 2 {
+        let lock = Lock(object as u8);
+        if op == 1 {
+            Action::Acquire(lock)
+        } else {
+            Action::Release(lock)
+        }
+    } else if op <= 4 {
+        let variable = Variable(object as u16);
+        if op == 3 {
+            Action::Read(variable)
+        } else {
+            Action::Write(variable)
+        }
+    } else if op == 5 {
+        Action::Begin
+    } else {
+        Action::End
     }
 }
 

@@ -6,7 +6,7 @@ ghost use Rattle.std.specs.Prelude.{◌≡◌};
 ghost use Rattle.guards.specs.Guards.{guard_of, guard_line, guards_read, guards_under};
 ghost use Rattle.guards.specs.Judgement.{way_of, list_of};
 
-use digits::{digit_values, read_line};
+use digits::read_line;
 use frame::{LOCKS, Lock, MOST, MOST_PLACE, Refusal, Refused, VARIABLES, Variable};
 use text::MOST_BYTES;
 
@@ -79,13 +79,12 @@ pub fn read_guards(list: &[u8], table: &mut [u8; VARIABLES]) -> Result<u32, Refu
     ensures reply { result ≡ (guards_read list.now).reply }
     ensures table { table.new ≡ (guards_read list.now).table }
 {
-    let digits = digit_values();
     *table = [UNPROTECTED; VARIABLES];
     for i in 0..MOST {
         if list.len() <= 9 * i {
             return Ok(i as u32);
         }
-        match guard_line(read_line(&digits, list, 9 * i)) {
+        match guard_line(read_line(list, 9 * i)) {
             Err(reason) => return Err(reason.at(i as u32)),
             Ok(line) => {
                 let v = usize::from(line.variable.0);

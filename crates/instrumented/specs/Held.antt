@@ -33,7 +33,7 @@ held t Begin hs = hs
 held t End hs = hs
 
 abbrev pub holding : Verdict → ℕ → Operation → List ℕ → List ℕ
-holding (Ok tt) t o hs = held t o hs
+holding (Ok _) t o hs = held t o hs
 holding (Err v) t o hs = hs
 
 -- "A recording starts with no lock held and no block open."

@@ -60,7 +60,7 @@ violation k i t p locks =
 
 -- The verdict on a frame by what is wrong with it.
 abbrev pub fault_verdict : Result Unit Fault → ℕ → Thread → Phase → Verdict
-fault_verdict (Ok tt) i t p = (Ok tt)
+fault_verdict (Ok _) i t p = (Ok tt)
 fault_verdict (Err x) i t p = violation x.kind i t p x.locks
 
 -- "Lock n is bit n of a 64-bit set."

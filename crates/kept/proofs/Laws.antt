@@ -1,5 +1,5 @@
--- What a line tells: a line's mark its place, and the fields of a reply the reply.
-use Rattle.std.specs.Prelude.{Ok, Err, Option, Some, None}
+-- The fields of a reply tell it.
+use Rattle.std.specs.Prelude.{Ok, Err}
 use Prim.Native.Nat.{ℕ}
 use mathlib.Core.Path.{◌≡◌, refl}
 use Rattle.frame.specs.declared.Refusal.{Refusal}
@@ -8,12 +8,8 @@ use Rattle.reply.specs.Reply.{violated, refused, Reply}
 use Rattle.reply.specs.declared.Kind.{Kind}
 use Rattle.reply.specs.declared.Kind.TheVariants as kind
 use Rattle.reply.specs.declared.Violation.{Violation}
-use Rattle.line.specs.Line.{line_mark, reply_fields}
-use Rattle.kept.specs.Kept.{mark_of, kept_by, kept_reply}
-
-pub mark_told : (m : Option ℕ) → mark_of (line_mark m) ≡ m
-mark_told (Some i) = refl
-mark_told None = refl
+use Rattle.line.specs.Line.{reply_fields}
+use Rattle.kept.specs.Kept.{kept_by, kept_reply}
 
 refusal_told : (r : Refusal) (p n : ℕ) → kept_reply (reply_fields (refused r p) n) ≡ Ok (refused r p)
 unfolding kept_by
@@ -41,12 +37,11 @@ refusal_told refusal.MovesBuffer p n = refl
 
 violation_told : (k : Kind) (v : Violation) (n : ℕ) → v.kind ≡ k → kept_reply (reply_fields (violated v) n) ≡ Ok (violated v)
 unfolding kept_by
-violation_told kind.GuardNotHeld v n e = rw (e, mark_told v.begin, mark_told v.commit)
-violation_told kind.UnprotectedAfterCommit v n e = rw (e, mark_told v.begin, mark_told v.commit)
-violation_told kind.AcquireAfterCommit v n e = rw (e, mark_told v.begin, mark_told v.commit)
-violation_told kind.SetEmptied v n e = rw (e, mark_told v.begin, mark_told v.commit)
+violation_told kind.GuardNotHeld v n e = rw e
+violation_told kind.UnprotectedAfterCommit v n e = rw e
+violation_told kind.AcquireAfterCommit v n e = rw e
+violation_told kind.SetEmptied v n e = rw e
 
--- the fields of a reply tell it
 pub reply_told : (r : Reply) (n : ℕ) → kept_reply (reply_fields r n) ≡ Ok r
 unfolding kept_by
 reply_told (Err x) n = refusal_told x.reason x.place n

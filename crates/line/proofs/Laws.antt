@@ -1,13 +1,16 @@
--- Laws of lines: how many bytes there are, the line of fields with low digits alone, and the fields written.
+-- Laws of lines: how many bytes there are, the line of fields with low digits alone, and fields written one behind the other.
 use Rattle.std.specs.Prelude.{Option, Some, None}
-use Prim.Native.Nat.{ℕ}
+use Prim.Native.Nat.{ℕ, ◌+◌, ◌≤◌}
 use mathlib.Core.Path.{◌≡◌, refl}
-use mathlib.Core.List.{List, [], ◌++◌}
-use lib.ListN.{length, replicate, length-append}
-use Rattle.digits.specs.Digits.{digits, pasted}
-use Rattle.digits.proofs.Writing.{length_digits, digits_low, pasted_next}
+use mathlib.Core.List.{List, ◌++◌}
+use native.Mathlib.Omega.{arith}
+use borrow.Rule.Slice.PartMut.{put_mid}
+use lib.ListN.{length, take, drop, replicate, length-append, length-take, length-drop}
+use lib.Seq.{drop_at}
+use Rattle.digits.specs.Digits.{digits}
+use Rattle.digits.proofs.Writing.{length_digits, digits_low, part_next}
 use Rattle.line.specs.declared.Fields.{Fields}
-use Rattle.line.specs.Line.{kind_width, place_width, thread_width, locks_width, thread_at, begin_at, commit_at, locks_at, mark_field, held_mark, held_fields, line_length, fields_line}
+use Rattle.line.specs.Line.{place_width, mark_field, held_mark, held_fields, line_length, fields_line}
 
 -- the bytes of a line
 pub length_fields_line : (f : Fields) → length (fields_line f) ≡ line_length
@@ -23,23 +26,27 @@ pub held_line : (f : Fields) → fields_line (held_fields f) ≡ fields_line f
 unfolding fields_line
 held_line f = rw (digits_low place_width f.frame, held_mark_lem f.begin, held_mark_lem f.commit)
 
--- the six fields, written one behind the other over LFs
-pub fields_written : (f : Fields) (a b d e g l : List ℕ) → a ≡ pasted (replicate line_length 10) 0 kind_width (digits kind_width f.kind)
-    → b ≡ pasted a kind_width place_width (digits place_width f.frame) → d ≡ pasted b thread_at thread_width (digits thread_width f.thread)
-    → e ≡ pasted d begin_at place_width (digits place_width (mark_field place_width f.begin))
-    → g ≡ pasted e commit_at place_width (digits place_width (mark_field place_width f.commit))
-    → l ≡ pasted g locks_at locks_width (digits locks_width f.locks) → l ≡ fields_line f
-unfolding fields_line
-fields_written f a b d e g l p q r t u v =
+-- a line of LFs with the bytes ys written over its front
+pub record Front (ys : List ℕ) (at : ℕ) (line : List ℕ) : Type 0 where
+  pub long : length ys ≡ at
+  pub is : line ≡ ys ++ drop at (replicate line_length 10)
+
+-- which is a whole line
+pub front_room : {ys line : List ℕ} {at : ℕ} (m : ℕ) → Front ys at line → at ≤ line_length → m ≤ line_length → m ≤ length line
+front_room m f h k = rw (f.is, length-append, length-drop) (omega (arith, f.long))
+
+-- n digits written over the first LFs
+pub front_first : {xs : List ℕ} {v w : ℕ} (n : ℕ) → xs ≡ digits n w → w ≡ v → Front (digits n v) n (xs ++ drop n (replicate line_length 10))
+front_first n e q = record { long = length_digits n _; is = rw (e, q) }
+
+-- n digits written behind them, over a part of the line
+pub front_next : {ys line xs : List ℕ} {at v w : ℕ} (n : ℕ) → Front ys at line → at + n ≤ line_length
+    → xs ≡ digits (length (take n (drop at line))) w → w ≡ v → Front (ys ++ digits n v) (at + n) (put_mid at n line xs)
+front_next {ys} {line} {xs} {at} {v} {w} n f h e q =
     let s = replicate {A = ℕ} line_length 10 in
-    let y1 = digits kind_width f.kind in
-    let y2 = y1 ++ digits place_width f.frame in
-    let y3 = y2 ++ digits thread_width f.thread in
-    let y4 = y3 ++ digits place_width (mark_field place_width f.begin) in
-    let y5 = y4 ++ digits place_width (mark_field place_width f.commit) in
-    let e1 = pasted_next s [] y1 s a 0 kind_width refl refl p in
-    let e2 = pasted_next s y1 _ a b kind_width place_width (simp length_digits) e1 q in
-    let e3 = pasted_next s y2 _ b d thread_at thread_width (simp (length-append, length_digits)) e2 r in
-    let e4 = pasted_next s y3 _ d e begin_at place_width (simp (length-append, length_digits)) e3 t in
-    let e5 = pasted_next s y4 _ e g commit_at place_width (simp (length-append, length_digits)) e4 u in
-    pasted_next s y5 _ g l locks_at locks_width (simp (length-append, length_digits)) e5 v
+    let d : drop at line ≡ drop at s = rw f.is (drop_at ys (drop at s) at f.long) in
+    let m : length (take n (drop at line)) ≡ n = rw d (simp (length-take, length-drop) (omega arith)) in
+    record {
+      long = simp (length-append, length_digits) (omega (arith, f.long));
+      is = rw (e, m, q, f.is) (part_next ys s (digits n v) at n f.long);
+    }

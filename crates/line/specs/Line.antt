@@ -56,11 +56,6 @@ mark_field n None = absent_in n
 abbrev pub field_mark : ℕ → ℕ → Option ℕ
 field_mark n v = cond (eqb v (absent_in n)) None (Some v)
 
--- A begin or a commit of a violation, in a line.
-abbrev pub line_mark : Option ℕ → Option ℕ
-line_mark (Some i) = Some i
-line_mark None = None
-
 -- Of a kind and a frame, with "thread 00, FFFF twice, locks zero".
 abbrev pub bare_fields : ℕ → ℕ → Fields
 bare_fields k p = record { kind = k; frame = p; thread = 0; begin = None; commit = None; locks = 0 }
@@ -72,8 +67,8 @@ verdict_fields (Err v) n = record {
   kind = kind_number v.kind;
   frame = v.frame;
   thread = v.thread.0;
-  begin = line_mark v.begin;
-  commit = line_mark v.commit;
+  begin = v.begin;
+  commit = v.commit;
   locks = v.locks;
 }
 

@@ -3,8 +3,9 @@
 #![tactic(auto)]
 
 ghost use Rattle.std.specs.Prelude.{◌≡◌, ◌++◌, ◌≤◌, length, drop};
-ghost use Rattle.line.specs.Line.{place_width, mark_field, line_mark, bare_fields, reply_fields, held_place, held_mark, held_fields, line_length, fields_line, verdict_line};
+ghost use Rattle.line.specs.Line.{place_width, mark_field, bare_fields, reply_fields, held_place, held_fields, line_length, fields_line, verdict_line};
 
+use digits::put;
 use reply::Reply;
 
 // The digits of the fields: of a kind, of a frame, a begin or a commit, of a thread, of the locks.
@@ -35,7 +36,7 @@ pub const LINE: usize = LINE_END + 1;
 // A place that the digits of a line hold, and the first number that they do not.
 pub type Place = u16;
 
-const PLACE_END: u64 = 1u64 << (4 * PLACE_WIDTH);
+const PLACE_END: u32 = 1 << (4 * PLACE_WIDTH);
 
 // The begin or commit that is absent: the highest that its digits hold.
 pub const ABSENT: Place = (PLACE_END - 1) as Place;
@@ -55,27 +56,14 @@ pub struct Fields {
 pub fn mark_field(m: Option<Place>) -> Place
     ensures { result ≡ mark_field place_width m }
 {
-    match m {
-        Some(i) => i,
-        None => ABSENT,
-    }
+    m.unwrap_or(ABSENT)
 }
 
 // The low digits of a place, as many as a line has.
 fn held_place(p: u32) -> Place
     ensures { result ≡ held_place p }
 {
-    (p as u64 % PLACE_END) as Place
-}
-
-// The begin or the commit of a violation, in a line.
-fn line_mark(m: Option<u32>) -> Option<Place>
-    ensures { result ≡ held_mark (line_mark m) }
-{
-    match m {
-        Some(i) => Some(held_place(i)),
-        None => None,
-    }
+    (p % PLACE_END) as Place
 }
 
 // The fields that a refusal and a reducible recording share.
@@ -83,7 +71,7 @@ fn bare_fields(kind: u8, frame: u32) -> Fields
     ensures { result ≡ held_fields (bare_fields kind frame) }
 {
     Fields {
-        kind: kind,
+        kind,
         frame: held_place(frame),
         thread: 0,
         begin: None,
@@ -97,25 +85,15 @@ pub fn reply_fields(r: Reply, frames: u32) -> Fields
     ensures { result ≡ held_fields (reply_fields r frames) }
 {
     match r {
-        Err(x) => {
-            let reason = x.reason;
-            bare_fields(128 + u8::from(reason), x.place)
-        }
-        Ok(v) => match v {
-            Ok(()) => bare_fields(0, frames),
-            Err(w) => {
-                let kind = w.kind;
-                let begin = w.begin;
-                let commit = w.commit;
-                Fields {
-                    kind: u8::from(kind),
-                    frame: held_place(w.frame),
-                    thread: w.thread.0,
-                    begin: line_mark(begin),
-                    commit: line_mark(commit),
-                    locks: w.locks,
-                }
-            }
+        Err(x) => bare_fields(128 + u8::from(x.reason), x.place),
+        Ok(Ok(())) => bare_fields(0, frames),
+        Ok(Err(v)) => Fields {
+            kind: u8::from(v.kind),
+            frame: held_place(v.frame),
+            thread: v.thread.0,
+            begin: v.begin.map(held_place),
+            commit: v.commit.map(held_place),
+            locks: v.locks,
         },
     }
 }
@@ -124,15 +102,19 @@ pub fn reply_fields(r: Reply, frames: u32) -> Fields
 pub fn fields_line(f: Fields) -> [u8; LINE]
     ensures { result ≡ fields_line f }
 {
-    let begin = f.begin;
-    let commit = f.commit;
-    let mut line = [10u8; LINE];
-    digits::put(&mut line, 0, KIND_WIDTH, f.kind as u64);
-    digits::put(&mut line, FRAME_AT, PLACE_WIDTH, f.frame as u64);
-    digits::put(&mut line, THREAD_AT, THREAD_WIDTH, f.thread as u64);
-    digits::put(&mut line, BEGIN_AT, PLACE_WIDTH, mark_field(begin) as u64);
-    digits::put(&mut line, COMMIT_AT, PLACE_WIDTH, mark_field(commit) as u64);
-    digits::put(&mut line, LOCKS_AT, LOCKS_WIDTH, f.locks);
+    let mut line = [b'\n'; LINE];
+    put(&mut line[..FRAME_AT], u64::from(f.kind));
+    put(&mut line[FRAME_AT..THREAD_AT], u64::from(f.frame));
+    put(&mut line[THREAD_AT..BEGIN_AT], u64::from(f.thread));
+    put(
+        &mut line[BEGIN_AT..COMMIT_AT],
+        u64::from(mark_field(f.begin)),
+    );
+    put(
+        &mut line[COMMIT_AT..LOCKS_AT],
+        u64::from(mark_field(f.commit)),
+    );
+    put(&mut line[LOCKS_AT..LINE_END], f.locks);
     line
 }
 
@@ -140,18 +122,13 @@ pub fn fields_line(f: Fields) -> [u8; LINE]
 pub fn verdict_line(r: Reply, frames: u32) -> [u8; LINE]
     ensures { result ≡ verdict_line r frames }
 {
-    let f = reply_fields(r, frames);
-    fields_line(f)
+    fields_line(reply_fields(r, frames))
 }
 
 // A line at the front of a lent buffer. The rest is left.
-pub fn put_line(out: &mut [u8], l: [u8; LINE])
+pub fn put_line(out: &mut [u8], l: &[u8; LINE])
     requires { line_length ≤ length out.old }
-    ensures { out.new ≡ l ++ drop line_length out.old }
+    ensures { out.new ≡ l.now ++ drop line_length out.old }
 {
-    let mut i = 0;
-    while i < LINE {
-        out[i] = l[i];
-        i += 1;
-    }
+    out[..LINE].copy_from_slice(l);
 }

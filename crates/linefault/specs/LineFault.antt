@@ -27,20 +27,6 @@ fault_sentence fault.NoEnd = "not the LF; end the line behind eight digits.\n"
 fault_sentence fault.LowerCase = "a lower-case letter; write A-F.\n"
 fault_sentence fault.NoDigit = "not a digit; write 0-9 A-F.\n"
 
--- The line of a sentence in the text of them all.
-abbrev pub fault_number : Fault → ℕ
-fault_number fault.Mark = 0
-fault_number fault.BlankLine = 1
-fault_number fault.TooFew = 2
-fault_number fault.Unfinished = 3
-fault_number fault.NoLinefeed = 4
-fault_number fault.Return = 5
-fault_number fault.Blank = 6
-fault_number fault.TooMany = 7
-fault_number fault.NoEnd = 8
-fault_number fault.LowerCase = 9
-fault_number fault.NoDigit = 10
-
 -- The byte of a column, which counts from 1, "as two digits".
 abbrev pub byte_text : List ℕ → ℕ → List ℕ
 byte_text t c =

@@ -1,137 +1,97 @@
-// What is wrong with a line that is refused by 1, in words: the first byte that is wrong, its column, and what to do. Written into a lent buffer,
-// as far as there is room; each function replies the place behind what it wrote.
+// What is wrong with a line that is refused by 1, in words: the first byte that is wrong, its column, and what to do.
 
 #![tactic(auto)]
 
-ghost use Rattle.std.specs.Prelude.{◌≡◌, ◌*◌, ◌≤◌, length, drop};
+ghost use Rattle.std.specs.Prelude.{◌≡◌, ◌*◌, ◌≤◌, drop};
 ghost use Rattle.digits.specs.Digits.{digits};
-ghost use Rattle.output.specs.Output.{bytes, behind, written};
-ghost use Rattle.linefault.specs.LineFault.{fault_number, fault_sentence, column_text, line_fault_text, refused_text};
+ghost use Rattle.output.specs.Output.{Appended, bytes};
+ghost use Rattle.linefault.specs.LineFault.{fault_sentence, column_text, line_fault_text, refused_text};
 
 use fault::Fault;
-use frame::Refused;
-use output::{put_decimal, put_text};
+use frame::{Refusal, Refused};
+use output::Text;
 use phrase::Source;
-use sentence::say;
-
-// The line of a fault in the text of them all.
-fn fault_number(f: Fault) -> u8
-    ensures { result ≡ fault_number f }
-{
-    match f {
-        Fault::Mark => 0,
-        Fault::BlankLine => 1,
-        Fault::TooFew => 2,
-        Fault::Unfinished => 3,
-        Fault::NoLinefeed => 4,
-        Fault::Return => 5,
-        Fault::Blank => 6,
-        Fault::TooMany => 7,
-        Fault::NoEnd => 8,
-        Fault::LowerCase => 9,
-        Fault::NoDigit => 10,
-    }
-}
 
 // What it is, and what to do.
-fn put_fault(out: &mut [u8], at: usize, f: Fault) -> usize
-    ensures place { result ≡ behind (length out.old) at (bytes (fault_sentence f)) }
-    ensures contents { out.new ≡ written out.old at (bytes (fault_sentence f)) }
+fn fault_sentence(fault: Fault) -> &'static [u8]
+    ensures { result.now ≡ bytes (fault_sentence fault) }
 {
-    let n = fault_number(f);
-    let sentence = textlines::nth_line(
-        b"a byte-order mark; save the file without it.\n\
-            an LF, so the line is blank; drop it.\n\
-            an LF, so there are too few digits; write eight.\n\
-            so there are too few digits and no LF; write eight and an LF.\n\
-            so the last line has no LF; add it.\n\
-            a CR; end each line with LF alone.\n\
-            a blank or a tab; write none.\n\
-            a digit too many; write eight.\n\
-            not the LF; end the line behind eight digits.\n\
-            a lower-case letter; write A-F.\n\
-            not a digit; write 0-9 A-F.\n",
-        n,
-    );
-    put_text(out, at, sentence)
+    match fault {
+        Fault::Mark => b"a byte-order mark; save the file without it.\n",
+        Fault::BlankLine => b"an LF, so the line is blank; drop it.\n",
+        Fault::TooFew => b"an LF, so there are too few digits; write eight.\n",
+        Fault::Unfinished => b"so there are too few digits and no LF; write eight and an LF.\n",
+        Fault::NoLinefeed => b"so the last line has no LF; add it.\n",
+        Fault::Return => b"a CR; end each line with LF alone.\n",
+        Fault::Blank => b"a blank or a tab; write none.\n",
+        Fault::TooMany => b"a digit too many; write eight.\n",
+        Fault::NoEnd => b"not the LF; end the line behind eight digits.\n",
+        Fault::LowerCase => b"a lower-case letter; write A-F.\n",
+        Fault::NoDigit => b"not a digit; write 0-9 A-F.\n",
+    }
 }
 
 // A byte as two digits.
-fn put_hexadecimal(out: &mut [u8], at: usize, b: u8) -> usize
-    ensures place { result ≡ behind (length out.old) at (digits 2 b) }
-    ensures contents { out.new ≡ written out.old at (digits 2 b) }
+fn put_hexadecimal(out: &mut Text<'_>, byte: u8)
+    ensures { Appended out.old out.new (digits 2 byte) }
 {
     let mut two = [0u8; 2];
-    digits::put(&mut two, 0, 2, b as u64);
-    put_text(out, at, &two)
+    digits::put(&mut two, byte as u64);
+    out.put_text(&two);
 }
 
 // The column behind c digits, and the byte there.
-fn put_column(out: &mut [u8], at: usize, line: &[u8], c: usize) -> usize
+fn put_column(out: &mut Text<'_>, line: &[u8], c: usize)
     requires { c ≤ 8 }
-    ensures place { result ≡ behind (length out.old) at (column_text line.now c) }
-    ensures contents { out.new ≡ written out.old at (column_text line.now c) }
+    ensures { Appended out.old out.new (column_text line.now c) }
 {
-    let p = put_text(out, at, b"column ");
-    let q = put_decimal(out, p, c as u64 + 1);
-    if line.len() <= c {
-        return put_text(out, q, b" is behind the end of the file, ");
+    out.put_text(b"column ");
+    out.put_decimal(c as u64 + 1);
+    match line.get(c) {
+        Some(byte) => {
+            out.put_text(b" has byte ");
+            put_hexadecimal(out, *byte);
+            out.put_text(b", ");
+        }
+        None => out.put_text(b" is behind the end of the file, "),
     }
-    let r = put_text(out, q, b" has byte ");
-    let s = put_hexadecimal(out, r, line[c]);
-    put_text(out, s, b", ")
 }
 
 // A text from its line i on; nothing where it has no such line.
 fn line_from(text: &[u8], i: u32) -> &[u8]
     ensures { result.now ≡ drop (9 * i) text.now }
 {
-    let start = 9 * i as usize;
-    if text.len() < start {
-        return &text[..0];
-    }
-    &text[start..]
+    text.get(9 * i as usize..).unwrap_or(&[])
 }
 
 // What is wrong with the line at a place of a text.
-fn say_line(out: &mut [u8], source: Source, text: &[u8], place: u32) -> usize
-    ensures place { result ≡ behind (length out.old) 0 (line_fault_text source text.now place) }
-    ensures contents { out.new ≡ written out.old 0 (line_fault_text source text.now place) }
+fn say_line(out: &mut Text<'_>, source: Source, text: &[u8], place: u32)
+    ensures { Appended out.old out.new (line_fault_text source text.now place) }
 {
-    let none = [0u32; 0];
-    let f = facts::place_facts(source, &none, place);
-    let p = say(
+    sentence::say(
         out,
-        0,
         b"refused: number 1, @ of % is not eight digits 0-9 A-F and one LF: ",
-        f,
+        facts::place_facts(source, &[], place),
     );
     let line = line_from(text, place);
     let c = fault::leading_digits(line);
-    let q = put_column(out, p, line, c);
-    let w = fault::fault_of(line, place, c);
-    put_fault(out, q, w)
+    put_column(out, line, c);
+    out.put_text(fault_sentence(fault::fault_of(line, place, c)));
 }
 
 // A refusal in words, with what is at hand of what is refused: its text, and the words of the recording.
 pub fn explain_refused(
-    out: &mut [u8],
+    out: &mut Text<'_>,
     source: Source,
     text: &[u8],
     words: &[u32],
-    x: Refused,
-) -> usize
-    ensures place { result ≡ behind (length out.old) 0 (refused_text source text.now words.now x) }
-    ensures contents { out.new ≡ written out.old 0 (refused_text source text.now words.now x) }
+    refused: Refused,
+)
+    ensures { Appended out.old out.new (refused_text source text.now words.now refused) }
 {
-    let reason = x.reason;
-    let n = u8::from(reason);
-    let start = 9 * x.place as usize;
-    if n == 1 {
-        if start < text.len() {
-            return say_line(out, source, text, x.place);
-        }
-        return refusaltext::explain_refusal(out, 0, source, words, x);
+    if refused.reason == Refusal::Line && 9 * (refused.place as usize) < text.len() {
+        say_line(out, source, text, refused.place);
+    } else {
+        refusaltext::explain_refusal(out, source, words, refused);
     }
-    refusaltext::explain_refusal(out, 0, source, words, x)
 }

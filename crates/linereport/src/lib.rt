@@ -5,69 +5,56 @@
 ghost use Rattle.std.specs.Prelude.{◌≡◌, length};
 ghost use Rattle.frame.specs.Refusal.{refusal_number};
 ghost use Rattle.kept.specs.Kept.{kept_reply};
-ghost use Rattle.output.specs.Output.{behind, written};
+ghost use Rattle.output.specs.Output.{Appended, behind, written};
 ghost use Rattle.linereport.specs.LineReport.{source_by, source_of, other_text, kept_text, line_report};
 
 use explain::explain;
+use frame::Refusal;
 use line::Fields;
-use output::{put_decimal, put_text};
+use output::Text;
 use phrase::Source;
 use refusaltext::explain_refusal;
 use reply::Reply;
 
-// What the refusal of a number speaks of.
-fn source_by(n: u8) -> Source
-    ensures { result ≡ source_by n }
+// What a refusal speaks of.
+fn source_by(reason: Refusal) -> Source
+    ensures { result ≡ source_by (refusal_number reason) }
 {
-    if n == 1 {
-        return Source::Text;
+    match reason {
+        Refusal::Line => Source::Text,
+        Refusal::GuardRange | Refusal::GuardRepeated => Source::GuardList,
+        _ => Source::Recording,
     }
-    if n == 11 {
-        return Source::GuardList;
-    }
-    if n == 12 {
-        return Source::GuardList;
-    }
-    Source::Recording
 }
 
 // What a reply speaks of.
-fn source_of(r: Reply) -> Source
-    ensures { result ≡ source_of r }
+fn source_of(reply: Reply) -> Source
+    ensures { result ≡ source_of reply }
 {
-    match r {
-        Err(x) => {
-            let reason = x.reason;
-            source_by(u8::from(reason))
-        }
-        Ok(v) => Source::Recording,
+    match reply {
+        Ok(_) => Source::Recording,
+        Err(refused) => source_by(refused.reason),
     }
 }
 
 // A number of a refusal that this check does not give, and its place.
-pub fn put_other(out: &mut [u8], number: u64, place: u64) -> usize
-    ensures place { result ≡ behind (length out.old) 0 (other_text number place) }
-    ensures contents { out.new ≡ written out.old 0 (other_text number place) }
+pub fn put_other(out: &mut Text<'_>, number: u64, place: u64)
+    ensures { Appended out.old out.new (other_text number place) }
 {
-    let p = put_text(out, 0, b"refused: number ");
-    let q = put_decimal(out, p, number);
-    let s = put_text(out, q, b", which this check does not give; its place is ");
-    let t = put_decimal(out, s, place);
-    put_text(out, t, b".\n")
+    out.put_text(b"refused: number ");
+    out.put_decimal(number);
+    out.put_text(b", which this check does not give; its place is ");
+    out.put_decimal(place);
+    out.put_text(b".\n");
 }
 
 // A line that is read, in words; words are those of its recording.
-fn put_kept(out: &mut [u8], f: Fields, words: &[u32]) -> usize
-    ensures place { result ≡ behind (length out.old) 0 (kept_text (kept_reply f) words.now f.frame) }
-    ensures contents { out.new ≡ written out.old 0 (kept_text (kept_reply f) words.now f.frame) }
+fn put_kept(out: &mut Text<'_>, fields: Fields, words: &[u32])
+    ensures { Appended out.old out.new (kept_text (kept_reply fields) words.now fields.frame) }
 {
-    let k = kept::reply_of(f);
-    match k {
-        Ok(r) => {
-            let s = source_of(r);
-            explain(out, 0, s, words, r, f.frame as u32)
-        }
-        Err(n) => put_other(out, n as u64, f.frame as u64),
+    match kept::reply_of(fields) {
+        Ok(reply) => explain(out, source_of(reply), words, reply, fields.frame as u32),
+        Err(number) => put_other(out, number as u64, fields.frame as u64),
     }
 }
 
@@ -76,9 +63,10 @@ pub fn line_report(line: &[u8], words: &[u32], out: &mut [u8]) -> usize
     ensures place { result ≡ behind (length out.old) 0 (line_report line.now words.now) }
     ensures contents { out.new ≡ written out.old 0 (line_report line.now words.now) }
 {
-    let q = fields::read_fields(line);
-    match q {
-        Ok(f) => put_kept(out, f, words),
-        Err(x) => explain_refusal(out, 0, Source::Text, words, x),
+    let mut text = Text::over(out);
+    match fields::read_fields(line) {
+        Ok(fields) => put_kept(&mut text, fields, words),
+        Err(refused) => explain_refusal(&mut text, Source::Text, words, refused),
     }
+    text.len()
 }

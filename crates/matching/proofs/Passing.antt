@@ -35,5 +35,10 @@ module _ {ws : List ℕ} {t from i : ℕ} (s : check_reply ws ≡ (Ok tt)) (p : 
   pub passed_mine : i < length ws → word_at ws i / 65536 % 256 ≡ t → FoundIn ws t from i
   passed_mine h e = record { onward = p.onward; within = p.within; passed = p.passed; mine = λ _. thread_byte (word_at ws i) (sound_decodes ws s i h) ∙ e }
 
-  pub passed_all : length ws ≤ i → FoundIn ws t from i
-  passed_all h = record { onward = p.onward; within = p.within; passed = p.passed; mine = λ g. absurd (omega arith) }
+  pub passed_all : length ws ≤ i → FoundIn ws t from (length ws)
+  passed_all h = record {
+    onward = omega (arith, p.onward, p.within);
+    within = omega arith;
+    passed = λ k a b. p.passed k a (omega arith);
+    mine = λ g. absurd (omega arith);
+  }

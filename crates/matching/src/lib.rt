@@ -2,88 +2,79 @@
 
 #![tactic(auto)]
 
-ghost use Rattle.std.specs.Prelude.{◌≡◌, ◌≤◌, ◌<◌, max, ltb, length, get_or, set};
+ghost use Rattle.std.specs.Prelude.{◌≡◌, ◌≤◌, ltb, length};
 ghost use Rattle.frame.specs.Frame.{ObjectInRange};
 ghost use Rattle.soundness.specs.Soundness.{check_reply};
-ghost use Rattle.matching.specs.Places.{Stored, raised_to, lasts_of, Noted, FoundIn};
+ghost use Rattle.matching.specs.Places.{no_lasts, last_at, with_last, Finds};
 
-use frame::{Action, LOCKS, Thread, VARIABLES};
+use frame::{Action, LOCKS, Lock, Thread, VARIABLES, Variable};
 
-// Stores q, and answers whether what was there is below q.
-fn store(last: &mut [u32], k: usize, q: u32) -> bool
-    requires { k < length last.old }
-    ensures { Stored last.old k q last.new result }
-{
-    let before = last[k];
-    last[k] = q;
-    before < q
+// One more than a place, 0 for none: for each lock the last place matched that names it, for each variable the place of the last write
+// matched, and the greatest place matched of any access.
+#[derive(Drop)]
+pub struct Lasts {
+    pub locks: [u32; LOCKS],
+    pub writes: [u32; VARIABLES],
+    pub accesses: [u32; VARIABLES],
 }
 
-// The larger of two numbers.
-fn larger(x: u32, q: u32) -> u32
-    ensures { result ≡ max x q }
-{
-    if x < q { q } else { x }
-}
-
-// A read is matched. Answers whether its variable was written before q only.
-fn note_read(writes: &[u32], accesses: &mut [u32], k: usize, q: u32) -> bool
-    requires fact_1 { k < length writes.now }
-    requires fact_2 { k < length accesses.old }
-    ensures fact_1 { result ≡ ltb (get_or writes.now k 0) q }
-    ensures fact_2 { accesses.new ≡ raised_to accesses.old k q }
-{
-    let written = writes[k];
-    let accessed = accesses[k];
-    accesses[k] = larger(accessed, q);
-    written < q
-}
-
-// A write is matched. Answers whether its variable was accessed before q only.
-fn note_write(writes: &mut [u32], accesses: &mut [u32], k: usize, q: u32) -> bool
-    requires { (k < length writes.old) × (k < length accesses.old) }
-    ensures { (writes.new ≡ set writes.old k q) × (Stored accesses.old k q accesses.new result) }
-{
-    let last = accesses[k];
-    writes[k] = q;
-    accesses[k] = q;
-    last < q
-}
-
-// A frame with this action is matched; q is one more than its place. Answers whether what clashes with it was matched before q only.
-pub fn note_last(
-    locks: &mut [u32; LOCKS],
-    writes: &mut [u32; VARIABLES],
-    accesses: &mut [u32; VARIABLES],
-    a: Action,
-    q: u32,
-) -> bool
-    requires { ObjectInRange a }
-    ensures { Noted a q (lasts_of locks.old writes.old accesses.old) (lasts_of locks.new writes.new accesses.new) result }
-{
-    match a {
-        Action::Acquire(l) => store(locks, l.0 as usize, q),
-        Action::Release(l) => store(locks, l.0 as usize, q),
-        Action::Read(v) => note_read(writes, accesses, v.0 as usize, q),
-        Action::Write(v) => note_write(writes, accesses, v.0 as usize, q),
-        Action::Begin => 0 < q,
-        Action::End => 0 < q,
-    }
-}
-
-// The first place, `from` or later, of a frame of thread t; the length if there is none.
-pub fn find(words: &[u32], from: usize, t: Thread) -> usize
-    requires fact_1 { check_reply words.now ≡ (Ok tt) }
-    requires fact_2 { from ≤ length words.now }
-    ensures { FoundIn words.now t.0 from result }
-{
-    let n = t.0 as u32;
-    let mut i = from;
-    while i < words.len() {
-        if words[i] / 65536 % 256 == n {
-            return i;
+impl Lasts {
+    // Nothing is matched.
+    pub fn new() -> Lasts
+        ensures { result ≡ no_lasts }
+    {
+        Lasts {
+            locks: [0; LOCKS],
+            writes: [0; VARIABLES],
+            accesses: [0; VARIABLES],
         }
-        i += 1;
     }
-    i
+
+    // A frame with this action is matched; `next` is one more than its place. Answers whether what clashes with it was matched before that
+    // only.
+    pub fn note(&mut self, action: Action, next: u32) -> bool
+        requires { ObjectInRange action }
+        ensures below { result ≡ ltb (last_at action self.old) next }
+        ensures noted { self.new ≡ with_last action next self.old }
+    {
+        match action {
+            Action::Acquire(Lock(lock)) | Action::Release(Lock(lock)) => {
+                let l = usize::from(lock);
+                let last = self.locks[l];
+                self.locks[l] = next;
+                last < next
+            }
+            Action::Read(Variable(variable)) => {
+                let v = usize::from(variable);
+                let written = self.writes[v];
+                self.accesses[v] = self.accesses[v].max(next);
+                written < next
+            }
+            Action::Write(Variable(variable)) => {
+                let v = usize::from(variable);
+                let accessed = self.accesses[v];
+                self.writes[v] = next;
+                self.accesses[v] = next;
+                accessed < next
+            }
+            Action::Begin | Action::End => 0 < next,
+        }
+    }
+}
+
+// The first place, `from` or later, of a frame of a thread. Not inlined, since the loop is then shorter: what is done with the word found
+// would have it load whole words.
+#[inline(never)]
+pub fn find(words: &[u32], from: usize, thread: Thread) -> Option<usize>
+    requires sound { check_reply words.now ≡ (Ok tt) }
+    requires within { from ≤ length words.now }
+    ensures { Finds words.now thread.0 from result }
+{
+    let number = u32::from(thread.0);
+    for i in from..words.len() {
+        if words[i] / 0x10000 % 0x100 == number {
+            return Some(i);
+        }
+    }
+    None
 }

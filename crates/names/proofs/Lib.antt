@@ -1,3 +1,2 @@
--- The names as lines of one text; their places.
+-- The names as lines of one text.
 mod Lines
-mod Places

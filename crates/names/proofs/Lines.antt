@@ -11,7 +11,8 @@ use lib.Seq.{take-append_seam}
 use Rattle.output.specs.Output.{bytes}
 use Rattle.textlines.specs.Lines.{nth_line}
 use Rattle.textlines.proofs.Tables.{joined, none, is_line, are_lines, entry}
-use Rattle.names.specs.Names.{names, no_name, name_at}
+use Rattle.std.specs.Prelude.{Some, ◌<◌}
+use Rattle.names.specs.Names.{names, name_at}
 
 -- a name with its LF
 abbrev line : String → List ℕ
@@ -30,14 +31,14 @@ mapped (s ∷ ss) zero h = refl
 mapped (s ∷ ss) (suc n) h = mapped ss n (omega arith)
 
 -- the line of a name
-pub name_line : (n : ℕ) → n ≤ no_name → nth_line n (joined name_lines) ≡ name_at n ++ (10 ∷ [])
+pub name_line : (n : ℕ) → n < length names → nth_line n (joined name_lines) ≡ name_at (Some n) ++ (10 ∷ [])
 unfolding name_at
-name_line n h = entry name_lines name_lines_lem n (lt-ltb n 27 (omega arith)) ∙ mapped names n (omega arith)
+name_line n h = entry name_lines name_lines_lem n (lt-ltb n 26 h) ∙ mapped names n (omega arith)
 
 -- its length, and what stands before its LF
-pub name_length : (n : ℕ) (l : List ℕ) → l ≡ name_at n ++ (10 ∷ []) → length l ≡ length (name_at n) + 1
-name_length n l e = rw e (length-append (name_at n) (10 ∷ []))
+pub name_length : (t l : List ℕ) → l ≡ t ++ (10 ∷ []) → length l ≡ length t + 1
+name_length t l e = rw e (length-append t (10 ∷ []))
 
-pub name_part : (n : ℕ) (l : List ℕ) → l ≡ name_at n ++ (10 ∷ []) → take (length l - 1) l ≡ name_at n
-name_part n l e =
-    let k : length l - 1 ≡ length (name_at n) = omega (arith, name_length n l e) in rw (k, e) (take-append_seam (name_at n) (10 ∷ []))
+pub name_part : (t l : List ℕ) → l ≡ t ++ (10 ∷ []) → take (length l - 1) l ≡ t
+name_part t l e =
+    let k : length l - 1 ≡ length t = omega (arith, name_length t l e) in rw (k, e) (take-append_seam t (10 ∷ []))

@@ -2,21 +2,21 @@
 
 #![tactic(auto)]
 
-ghost use Rattle.std.specs.Prelude.{◌≡◌, ◌≤◌, length};
+ghost use Rattle.std.specs.Prelude.{◌≡◌, length};
 ghost use Rattle.output.specs.Output.{written};
-ghost use Rattle.names.specs.Names.{no_name, name_at, kind_place, refusal_place, kind_name, refusal_name};
+ghost use Rattle.names.specs.Names.{IsPlace, name_at, kind_place, refusal_place, kind_name, refusal_name};
 
-use output::put_text;
+use output::Text;
 
-// The place in the table of what has no name.
-const NO_NAME: u8 = 26;
-
-// The name at a place of the table of them all.
-fn put_name(out: &mut [u8], n: u8) -> usize
-    requires { n ≤ no_name }
-    ensures length { result ≡ length (name_at n) }
-    ensures contents { out.new ≡ written out.old 0 (name_at n) }
+// The name at a place of the table of them all; nothing where there is no place.
+fn put_name(out: &mut [u8], place: Option<u8>) -> usize
+    requires { IsPlace place }
+    ensures length { result ≡ length (name_at place) }
+    ensures contents { out.new ≡ written out.old 0 (name_at place) }
 {
+    let Some(place) = place else {
+        return 0;
+    };
     let line = textlines::nth_line(
         b"reducible\n\
             guard not held\n\
@@ -43,39 +43,34 @@ fn put_name(out: &mut [u8], n: u8) -> usize
             not a verdict line\n\
             text too short\n\
             too many holds\n\
-            moves too short\n\
-            \n",
-        n,
+            moves too short\n",
+        place,
     );
-    let e = line.len() - 1;
-    put_text(out, 0, &line[..e]);
-    e
+    let name = &line[..line.len() - 1];
+    let mut text = Text::over(out);
+    text.put_text(name);
+    name.len()
 }
 
 // The place of a refusal's name, by its number.
-fn refusal_place(number: u8) -> u8
+fn refusal_place(number: u8) -> Option<u8>
     ensures { result ≡ refusal_place number }
 {
-    if number == 0 {
-        return NO_NAME;
+    match number {
+        1..=21 => Some(number + 4),
+        _ => None,
     }
-    if 21 < number {
-        return NO_NAME;
-    }
-    number + 4
 }
 
 // The place of a kind's name.
-fn kind_place(kind: u8) -> u8
+fn kind_place(kind: u8) -> Option<u8>
     ensures { result ≡ kind_place kind }
 {
-    if kind < 5 {
-        return kind;
+    match kind {
+        0..=4 => Some(kind),
+        5..=127 => None,
+        _ => refusal_place(kind - 128),
     }
-    if kind < 128 {
-        return NO_NAME;
-    }
-    refusal_place(kind - 128)
 }
 
 // The name of a kind.
@@ -83,8 +78,7 @@ pub fn put_kind_name(out: &mut [u8], kind: u8) -> usize
     ensures length { result ≡ length (kind_name kind) }
     ensures contents { out.new ≡ written out.old 0 (kind_name kind) }
 {
-    let n = kind_place(kind);
-    put_name(out, n)
+    put_name(out, kind_place(kind))
 }
 
 // The name of a refusal, by its number.
@@ -92,6 +86,5 @@ pub fn put_refusal_name(out: &mut [u8], number: u8) -> usize
     ensures length { result ≡ length (refusal_name number) }
     ensures contents { out.new ≡ written out.old 0 (refusal_name number) }
 {
-    let n = refusal_place(number);
-    put_name(out, n)
+    put_name(out, refusal_place(number))
 }

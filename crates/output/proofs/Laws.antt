@@ -8,12 +8,9 @@ use lib.ListN.{length, set, take, drop, length-set}
 use lib.Seq.{append_snoc, sets, sets-eq}
 use borrow.Author.Tests.{lt-ltb, le-ltb, ne_eqb}
 use Rattle.laws.proofs.Lists.{drop_stored}
-use Rattle.output.specs.Output.{after, behind, written, decimal_digits}
-
--- writing t into b from `at` on leaves b' and the place p
-pub record Put (b : List ℕ) (at : ℕ) (t : List ℕ) (b' : List ℕ) (p : ℕ) : Type 0 where
-  pub place : p ≡ behind (length b) at t
-  pub contents : b' ≡ written b at t
+use Rattle.std.specs.Borrow.{MutBor}
+use Rattle.output.specs.declared.Text.{Text}
+use Rattle.output.specs.Output.{after, behind, written, Over, Appended, decimal_digits}
 
 pub after_room : (n at : ℕ) → at < n → after n at ≡ at + 1
 unfolding after
@@ -28,9 +25,9 @@ unfolding written
 length_written b at [] = refl
 length_written b at (c ∷ t) = length_written (set b at c) (after (length b) at) t ∙ length-set b at c
 
-pub put_none : (b : List ℕ) (at : ℕ) → Put b at [] b at
+pub appended_none : (text : Text) → Appended text text []
 unfolding behind written
-put_none b at = record { place = refl; contents = refl }
+appended_none text = record { same_buffer = refl; place = refl; contents = refl }
 
 behind_more : (n at : ℕ) (s t : List ℕ) → behind n at (s ++ t) ≡ behind n (behind n at s) t
 unfolding behind
@@ -45,11 +42,21 @@ written_more b at (c ∷ s) t =
     ∙ ap (λ (n : ℕ). written (written (set b at c) (after (length b) at) s) (behind n (after (length b) at) s) t) (length-set b at c)
 
 -- one text behind another
-pub put_more : {b : List ℕ} {at : ℕ} {s t o : List ℕ} {q : ℕ} {b' : List ℕ} {p : ℕ} → Put b at s o q → Put o q t b' p → Put b at (s ++ t) b' p
-put_more {b} {at} {s} {t} {o} {q} {b'} {p} x y = record {
-  place = y.place ∙ rw (x.contents, x.place, length_written b at s) (sym (behind_more (length b) at s t));
-  contents = y.contents ∙ rw (x.contents, x.place) (sym (written_more b at s t));
-}
+pub appended_more : {a b c : Text} {s t : List ℕ} → Appended a b s → Appended b c t → Appended a c (s ++ t)
+appended_more {a} {b} {c} {s} {t} x y =
+    let n = length a.buffer.now in record {
+      same_buffer = y.same_buffer ∙ x.same_buffer;
+      place = y.place ∙ rw (x.contents, x.place, length_written a.buffer.now a.at s) (sym (behind_more n a.at s t));
+      contents = y.contents ∙ rw (x.contents, x.place) (sym (written_more a.buffer.now a.at s t));
+    }
+
+-- what stands in a lent buffer that a text is written to from its start
+pub record Put (b : List ℕ) (t : List ℕ) (b' : List ℕ) (n : ℕ) : Type 0 where
+  pub place : n ≡ behind (length b) 0 t
+  pub contents : b' ≡ written b 0 t
+
+pub put_over : {b : MutBor (List ℕ)} {empty text : Text} {t : List ℕ} → Over b empty → Appended empty text t → Put b.now t text.buffer.now text.at
+put_over o x = record { place = x.place ∙ rw (o.contents, o.place) refl; contents = x.contents ∙ rw (o.contents, o.place) refl }
 
 -- one more digit stored in front of those stored before
 pub digit_stored : (d : List ℕ) (j v : ℕ) → j < length d → 0 < v

@@ -1,9 +1,11 @@
 -- Text written into a lent buffer, as far as there is room; numbers and sets of locks as text.
 -- Quotes are from docs/FORMAT.md.
-use Rattle.std.specs.Prelude.{ℕ, zero, suc, ◌+◌, ◌/◌, ◌%◌, cond, List, [], ◌∷◌, ◌++◌, length, set, ltb, eqb}
+use Rattle.std.specs.Prelude.{ℕ, ◌≡◌, zero, suc, ◌+◌, ◌/◌, ◌%◌, cond, List, [], ◌∷◌, ◌++◌, length, set, ltb, eqb}
+use Rattle.std.specs.Borrow.{MutBor}
 use Prim.Native.Char.{code}
 use Prim.Native.String.{String, [] as empty, ◌∷◌ as ◌then◌}
 use Rattle.frame.specs.Limits.{lock_count, all_locks}
+use Rattle.output.specs.declared.Text.{Text}
 
 -- The bytes of a text of characters below 128.
 unfoldable pub bytes : String → List ℕ
@@ -23,6 +25,18 @@ behind n at (c ∷ t) = behind n (after n at) t
 unfoldable pub written : List ℕ → ℕ → List ℕ → List ℕ
 written b at [] = b
 written b at (c ∷ t) = written (set b at c) (after (length b) at) t
+
+-- A text in a lent buffer that nothing is written to yet. Whoever lends the buffer knows by its name what it holds afterwards.
+pub record Over (buffer : MutBor (List ℕ)) (text : Text) : Type 0 where
+  pub same_buffer : text.buffer.ghost_name ≡ buffer.ghost_name
+  pub place : text.at ≡ 0
+  pub contents : text.buffer.now ≡ buffer.now
+
+-- A text before and after t is written behind it.
+pub record Appended (before after : Text) (t : List ℕ) : Type 0 where
+  pub same_buffer : after.buffer.ghost_name ≡ before.buffer.ghost_name
+  pub place : after.at ≡ behind (length before.buffer.now) before.at t
+  pub contents : after.buffer.now ≡ written before.buffer.now before.at t
 
 -- The last k decimal digits of n, without leading zeros.
 unfoldable pub decimal_digits : ℕ → ℕ → List ℕ

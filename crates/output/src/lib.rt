@@ -1,10 +1,10 @@
-// Text written into a lent buffer from a place on, as far as there is room. Each function replies the place behind what it wrote.
+// Text written into a lent buffer, as far as there is room.
 
 #![tactic(auto)]
 
-ghost use Rattle.std.specs.Prelude.{◌≡◌, [], ◌∷◌, length};
+ghost use Rattle.std.specs.Prelude.{◌≡◌, [], ◌∷◌};
 ghost use Rattle.frame.specs.Limits.{lock_count};
-ghost use Rattle.output.specs.Output.{behind, written, decimal, lock_text, listed, locks_text};
+ghost use Rattle.output.specs.Output.{Over, Appended, decimal, lock_text, listed, locks_text};
 
 use frame::{ALL_LOCKS, LOCKS};
 
@@ -14,93 +14,96 @@ const DIGITS: usize = 20;
 // The first number that names no lock.
 const LOCK_END: u64 = LOCKS as u64;
 
-pub fn put_byte(out: &mut [u8], at: usize, b: u8) -> usize
-    ensures place { result ≡ behind (length out.old) at (b ∷ []) }
-    ensures contents { out.new ≡ written out.old at (b ∷ []) }
-{
-    if at < out.len() {
-        out[at] = b;
-        return at + 1;
-    }
-    at
+// A lent buffer, and the place that the next byte goes to.
+#[derive(Drop)]
+pub struct Text<'a> {
+    buffer: &'a mut [u8],
+    at: usize,
 }
 
-pub fn put_text(out: &mut [u8], at: usize, text: &[u8]) -> usize
-    ensures place { result ≡ behind (length out.old) at text.now }
-    ensures contents { out.new ≡ written out.old at text.now }
-{
-    let mut p = at;
-    let mut i = 0;
-    while i < text.len() {
-        p = put_byte(out, p, text[i]);
-        i += 1;
+impl<'a> Text<'a> {
+    // No text yet.
+    pub fn over(buffer: &'a mut [u8]) -> Text<'a>
+        ensures { Over buffer.entry result }
+    {
+        Text { buffer, at: 0 }
     }
-    p
-}
 
-// A number in decimal.
-pub fn put_decimal(out: &mut [u8], at: usize, n: u64) -> usize
-    ensures place { result ≡ behind (length out.old) at (decimal n) }
-    ensures contents { out.new ≡ written out.old at (decimal n) }
-{
-    if n == 0 {
-        return put_byte(out, at, 48);
+    // How many bytes of the buffer have text.
+    pub fn len(&self) -> usize
+        ensures { result ≡ self.now.at }
+    {
+        self.at
     }
-    let mut digits = [0u8; 20];
-    let mut k = DIGITS;
-    let mut v = n;
-    while 0 < v {
-        if k == 0 {
-            break;
+
+    pub fn put_byte(&mut self, byte: u8)
+        ensures { Appended self.old self.new (byte ∷ []) }
+    {
+        if self.at < self.buffer.len() {
+            self.buffer[self.at] = byte;
+            self.at += 1;
         }
-        k -= 1;
-        digits[k] = (v % 10) as u8 + 48;
-        v = v / 10;
     }
-    put_text(out, at, &digits[k..])
-}
 
-// Lock n, which is bit 0 of s, where it is in the set, and a comma where others follow.
-fn put_lock(out: &mut [u8], at: usize, n: u64, s: u64) -> usize
-    ensures place { result ≡ behind (length out.old) at (lock_text n s) }
-    ensures contents { out.new ≡ written out.old at (lock_text n s) }
-{
-    if s % 2 == 0 {
-        return at;
+    pub fn put_text(&mut self, text: &[u8])
+        ensures { Appended self.old self.new text.now }
+    {
+        for byte in text {
+            self.put_byte(*byte);
+        }
     }
-    let p = put_decimal(out, at, n);
-    if s / 2 == 0 {
-        return p;
-    }
-    put_text(out, p, b", ")
-}
 
-// The locks of a set, listed.
-fn put_listed(out: &mut [u8], at: usize, s: u64) -> usize
-    ensures place { result ≡ behind (length out.old) at (listed lock_count 0 s) }
-    ensures contents { out.new ≡ written out.old at (listed lock_count 0 s) }
-{
-    let mut p = at;
-    let mut v = s;
-    let mut n = 0;
-    while n < LOCK_END {
-        p = put_lock(out, p, n, v);
-        v = v / 2;
-        n += 1;
+    // A number in decimal.
+    pub fn put_decimal(&mut self, number: u64)
+        ensures { Appended self.old self.new (decimal number) }
+    {
+        if number == 0 {
+            return self.put_byte(b'0');
+        }
+        let mut digits = [0u8; DIGITS];
+        let mut start = DIGITS;
+        let mut rest = number;
+        while 0 < rest && 0 < start {
+            start -= 1;
+            digits[start] = (rest % 10) as u8 + b'0';
+            rest /= 10;
+        }
+        self.put_text(&digits[start..])
     }
-    p
-}
 
-// A set of locks.
-pub fn put_locks(out: &mut [u8], at: usize, s: u64) -> usize
-    ensures place { result ≡ behind (length out.old) at (locks_text s) }
-    ensures contents { out.new ≡ written out.old at (locks_text s) }
-{
-    if s == 0 {
-        return put_text(out, at, b"none");
+    // A lock, which is bit 0 of a set, where it is in the set, and a comma where others follow.
+    fn put_lock(&mut self, lock: u64, set: u64)
+        ensures { Appended self.old self.new (lock_text lock set) }
+    {
+        if set % 2 == 0 {
+            return;
+        }
+        self.put_decimal(lock);
+        if set / 2 != 0 {
+            self.put_text(b", ");
+        }
     }
-    if s == ALL_LOCKS {
-        return put_text(out, at, b"all 64");
+
+    // The locks of a set, listed.
+    fn put_listed(&mut self, set: u64)
+        ensures { Appended self.old self.new (listed lock_count 0 set) }
+    {
+        let mut rest = set;
+        for lock in 0..LOCK_END {
+            self.put_lock(lock, rest);
+            rest /= 2;
+        }
     }
-    put_listed(out, at, s)
+
+    // A set of locks.
+    #[tactic(auto, unfolding(crate::specs::Output::locks_text, crate::specs::Output::bytes))]
+    pub fn put_locks(&mut self, set: u64)
+        ensures { Appended self.old self.new (locks_text set) }
+    {
+        match set {
+            0 => self.put_text(b"none"),
+            ALL_LOCKS => self.put_text(b"all 64"),
+            _ => self.put_listed(set),
+        }
+    }
 }

@@ -26,7 +26,7 @@ use Rattle.pass.specs.Pass.{Ended, ended, on_decoded, judge_from, start_judging,
 use Rattle.frame.specs.declared.Refused.{Refused}
 
 abbrev pub on_fused : Result Unit Stop → ℕ → State → Judging → Result Unit Refused → Ended → Ended
-on_fused (Ok tt) i s j q rest = rest
+on_fused (Ok _) i s j q rest = rest
 on_fused (Err (stop.Refused r)) i s j q rest = ended (refused r i) s j
 on_fused (Err (stop.Wrong v)) i s j q rest = ended (after_check q v) s j
 
@@ -39,7 +39,7 @@ module _ (guards : List ℕ) where
       (fused_from (i + 1) (turned guards i f s j).state (turned guards i f s j).judging ws)
 
 after_reply : (q : Result Unit Refused) (v : Violation) (c : Judging) (s : State) (j : Judging) → (on_check q c (ended (violated v) s j)).reply ≡ after_check q v
-after_reply (Ok tt) v c s j = refl
+after_reply (Ok _) v c s j = refl
 after_reply (Err r) v c s j = refl
 
 -- The reply of a check before the pass, and the state in which the pass ends.
@@ -57,7 +57,7 @@ fused_is guards i s j (w ∷ ws) c = decode_case (λ n k. fused_is guards (i + 1
   where
     judge_case : ((n : State) (k : Judging) → Agree guards (i + 1) n k ws c) → (f : Frame) → decode_word w ≡ Ok f → (x : Level) (n : State) → step_frame f s ≡ stepped (Ok x) n
         → (v : Verdict) (k : Judging) → judge_frame guards i f s j ≡ judged v k → Agree guards i s j (w ∷ ws) c
-    judge_case ih f e x n g (Ok tt) k a = rw (e, a, g) (ih n k)
+    judge_case ih f e x n g (Ok _) k a = rw (e, a, g) (ih n k)
     judge_case ih f e x n g (Err v) k a = rw (e, a, g) (ap (λ (r : Reply). ended r s j) (after_reply (check_from (i + 1) n ws).reply v c s j))
 
     step_case : ((n : State) (k : Judging) → Agree guards (i + 1) n k ws c) → (f : Frame) → decode_word w ≡ Ok f → (o : Result Level Refusal) (n : State) → step_frame f s ≡ stepped o n → Agree guards i s j (w ∷ ws) c
@@ -75,7 +75,7 @@ pub record Answers (guards sets ws : List ℕ) (e : Ended) : Type 0 where
   pub left : sets_left guards sets ws ≡ e.judging.sets
 
 both_open : (q : Result Unit Refused) (c : Judging) (e : Ended) → open_at_end (on_check q c e) ≡ open_at_end (both q c e)
-both_open (Ok tt) c e = refl
+both_open (Ok _) c e = refl
 both_open (Err r) c e = refl
 
 pub judgement_fused : (guards sets ws : List ℕ) → length ws ≤ most_frames → Answers guards sets ws (fused_from guards 0 start (start_judging sets) ws)

@@ -57,7 +57,7 @@ turn_length : (guards : List ℕ) (i : ℕ) (f : Frame) (s : State) (j : Judging
 turn_length guards i f s j = stepping (step_frame f s).outcome _ (judging (judge_frame guards i f s j).verdict (judge_frame guards i f s j).judging (operation_length _ _ _ _ _ j))
   where
     judging : (v : Verdict) (k : Judging) → length k.sets ≡ length j.sets → length (by_verdict v (step_frame f s).state k).judging.sets ≡ length j.sets
-    judging (Ok tt) k e = e
+    judging (Ok _) k e = e
     judging (Err v) k e = e
 
     stepping : (o : Result Level Refusal) (x : Turned) → length x.judging.sets ≡ length j.sets → length (by_outcome o (step_frame f s).state j x).judging.sets ≡ length j.sets
@@ -65,7 +65,7 @@ turn_length guards i f s j = stepping (step_frame f s).outcome _ (judging (judge
     stepping (Err r) x e = refl
 
 onward : (t : Result Unit Stop) (i : ℕ) (s : State) (j : Judging) (e : Ended) → length e.judging.sets ≡ length j.sets → length (on_turn t i s j e).judging.sets ≡ length j.sets
-onward (Ok tt) i s j e q = q
+onward (Ok _) i s j e q = q
 onward (Err (stop.Refused r)) i s j e q = refl
 onward (Err (stop.Wrong v)) i s j e q = refl
 
@@ -81,7 +81,7 @@ judge_length guards i s j (w ∷ ws) = go (λ n k. judge_length guards (i + 1) n
     go ih (Err r) e = rw e
 
 checking : (q : Result Unit Refused) (j : Judging) (e : Ended) → length e.judging.sets ≡ length j.sets → length (on_check q j e).judging.sets ≡ length j.sets
-checking (Ok tt) j e p = p
+checking (Ok _) j e p = p
 checking (Err r) j e p = refl
 
 pub judgement_length : (guards sets ws : List ℕ) → length (judgement guards sets ws).judging.sets ≡ length sets
@@ -99,7 +99,7 @@ unfolding judgement
 judgement_sound guards sets ws v e = go (check_reply ws) refl
   where
     go : (q : Result Unit Refused) → check_reply ws ≡ q → check_reply ws ≡ (Ok tt)
-    go (Ok tt) f = f
+    go (Ok _) f = f
     go (Err r) f = let g : ◌≡◌ {A = Reply} (Err r) (Ok v) = rw f at e in never (cc)
 
 -- and has at most 4,096 frames

@@ -42,11 +42,11 @@ pub record Below (m : ℕ) (v : Violation) : Type 0 where
   pub commit : MarkUpTo v.frame v.commit
 
 abbrev pub VerdictBelow : ℕ → Verdict → Type 0
-VerdictBelow m (Ok tt) = Unit {0}
+VerdictBelow m (Ok _) = Unit {0}
 VerdictBelow m (Err v) = Below m v
 
 abbrev TurnBelow : ℕ → Result Unit Stop → Type 0
-TurnBelow m (Ok tt) = Unit {0}
+TurnBelow m (Ok _) = Unit {0}
 TurnBelow m (Err (stop.Refused r)) = Unit {0}
 TurnBelow m (Err (stop.Wrong v)) = Below m v
 
@@ -138,7 +138,7 @@ turn_led guards i f s j b = stepping (step_frame f s).outcome (judging (judge_fr
     judging x h = go x.verdict h.wrong
       where
         go : (v : Verdict) → VerdictBelow (i + 1) v → Led i (by_verdict v (step_frame f s).state x.judging)
-        go (Ok tt) w = record { wrong = tt; next = h.next }
+        go (Ok _) w = record { wrong = tt; next = h.next }
         go (Err v) w = record { wrong = w; next = h.next }
 
     stepping : (o : Result Level Refusal) {x : Turned} → Led i x → Led i (by_outcome o (step_frame f s).state j x)
@@ -151,7 +151,7 @@ module _ (m i : ℕ) (s : State) (j : Judging) (h : i < m) where
   decoding (Err r) rest g = omega arith
 
   onward : (t : Result Unit Stop) (e : Ended) → TurnBelow (i + 1) t → ReplyBelow m e.reply → ReplyBelow m (on_turn t i s j e).reply
-  onward (Ok tt) e b g = g
+  onward (Ok _) e b g = g
   onward (Err (stop.Refused r)) e b g = omega arith
   onward (Err (stop.Wrong v)) e b g = record { frame = omega (arith, b.frame); begin = b.begin; commit = b.commit }
 
@@ -175,5 +175,5 @@ unfolding judgement
 judgement_places guards sets ws = go (check_reply ws) refl
   where
     go : (q : Result Unit Refused) → check_reply ws ≡ q → ReplyBelow most_frames (on_check q (start_judging sets) (judge_from guards 0 start (start_judging sets) ws)).reply
-    go (Ok tt) e = judge_places guards 0 start (start_judging sets) ws most_frames (omega (arith, sound_fits ws e)) (start_since sets)
+    go (Ok _) e = judge_places guards 0 start (start_judging sets) ws most_frames (omega (arith, sound_fits ws e)) (start_since sets)
     go (Err r) e = check_place ws r e

@@ -42,7 +42,7 @@ Gives guards sets words r left =
 
 -- a violation is answered with no open begin, whatever the rest of the recording is
 after_open : (q : Result Unit Refused) (v : Violation) (m : Option ℕ) → open_under (after_check q v) m ≡ None
-after_open (Ok tt) v m = refl
+after_open (Ok _) v m = refl
 after_open (Err r) v m = refl
 
 module _ {words guards sets₀ sets : List ℕ} {s : State} {h : Threads} {i : ℕ} (inv : Inv words guards sets₀ sets s h i)

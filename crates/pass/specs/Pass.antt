@@ -31,7 +31,7 @@ on_decoded (Ok f) i s j rest = rest f
 on_decoded (Err r) i s j rest = ended (refused r i) s j
 
 abbrev pub on_turn : Result Unit Stop → ℕ → State → Judging → Ended → Ended
-on_turn (Ok tt) i s j rest = rest
+on_turn (Ok _) i s j rest = rest
 on_turn (Err (stop.Refused r)) i s j rest = ended (refused r i) s j
 on_turn (Err (stop.Wrong v)) i s j rest = ended (violated v) s j
 
@@ -51,7 +51,7 @@ unfoldable pub full_sets : List ℕ
 full_sets = replicate variable_count all_locks
 
 abbrev pub on_check : Result Unit Refused → Judging → Ended → Ended
-on_check (Ok tt) j rest = rest
+on_check (Ok _) j rest = rest
 on_check (Err r) j rest = ended (Err r) start j
 
 -- "a recording is sound throughout before any verdict is given"
@@ -84,7 +84,7 @@ first_open s j = first_open_from thread_count 0 None s.depths j.begins
 -- The first open begin that a pass answers beside its reply: that of a reducible recording.
 abbrev pub open_under : Reply → Option ℕ → Option ℕ
 open_under (Err r) m = None
-open_under (Ok (Ok tt)) m = m
+open_under (Ok (Ok _)) m = m
 open_under (Ok (Err v)) m = None
 
 abbrev pub open_at_end : Ended → Option ℕ
@@ -95,5 +95,5 @@ passed_with r m = record { reply = r; unclosed = m }
 
 -- A violation in frames of which the rest is checked for soundness: a refusal there wins.
 abbrev pub after_check : Result Unit Refused → Violation → Reply
-after_check (Ok tt) v = violated v
+after_check (Ok _) v = violated v
 after_check (Err r) v = Err r

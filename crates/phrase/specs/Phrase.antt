@@ -1,5 +1,5 @@
 -- What sentences name. Lines count from 1 and places, in brackets, from 0.
-use Rattle.std.specs.Prelude.{ℕ, ◌+◌, List, ◌++◌, Result, Ok, Err}
+use Rattle.std.specs.Prelude.{ℕ, ◌+◌, cond, List, ◌++◌, eqb, Result, Ok, Err}
 use Rattle.frame.specs.declared.Action.{Action}
 use Rattle.frame.specs.declared.Action.TheVariants as action
 use Rattle.frame.specs.declared.Variable.{Variable}
@@ -8,6 +8,12 @@ use Rattle.phrase.specs.declared.Source.{Source}
 use Rattle.phrase.specs.declared.Source.TheVariants as source
 use Rattle.frame.specs.declared.Refusal.{Refusal}
 use Rattle.frame.specs.declared.Frame.{Frame}
+
+-- What the numbers of `enum trace_source` (include/trace_library.h) name.
+abbrev pub source_named : ℕ → Source
+source_named n =
+    cond (eqb n 0) source.Recording
+    (cond (eqb n 1) source.GuardList (cond (eqb n 2) source.Left (cond (eqb n 3) source.Right source.Text)))
 
 -- SOURCE: "of a kept line also the text" (docs/TOOL.md).
 unfoldable pub source_text : Source → List ℕ

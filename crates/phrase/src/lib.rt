@@ -1,14 +1,13 @@
-// What sentences name: the recording or list spoken of, a line and its place, what a frame does. Written into a lent buffer from a place on, as far as
-// there is room; each function replies the place behind what it wrote.
+// What sentences name: the recording or list spoken of, a line and its place, what a frame does.
 
 #![tactic(auto)]
 
-ghost use Rattle.std.specs.Prelude.{◌≡◌, ◌++◌, length};
-ghost use Rattle.output.specs.Output.{decimal, behind, written};
-ghost use Rattle.phrase.specs.Phrase.{source_text, line_text, action_text, decoded_text, variable_in};
+ghost use Rattle.std.specs.Prelude.{◌≡◌, ◌++◌};
+ghost use Rattle.output.specs.Output.{Appended, decimal};
+ghost use Rattle.phrase.specs.Phrase.{source_named, source_text, line_text, action_text, decoded_text, variable_in};
 
 use frame::{Action, Frame, Refusal, Variable};
-use output::{put_byte, put_decimal, put_text};
+use output::Text;
 
 // What is spoken of.
 #[derive(Clone, Copy)]
@@ -20,81 +19,88 @@ pub enum Source {
     Text,
 }
 
-pub fn put_source(out: &mut [u8], at: usize, s: Source) -> usize
-    ensures place { result ≡ behind (length out.old) at (source_text s) }
-    ensures contents { out.new ≡ written out.old at (source_text s) }
-{
-    match s {
-        Source::Recording => put_text(out, at, b"the recording"),
-        Source::GuardList => put_text(out, at, b"the guard list"),
-        Source::Left => put_text(out, at, b"the left recording"),
-        Source::Right => put_text(out, at, b"the right recording"),
-        Source::Text => put_text(out, at, b"the text"),
+// What a number names, as C programs give it.
+impl From<u32> for Source {
+    ghost from_gives = { λ number source. source ≡ source_named number };
+
+    fn from(number: u32) -> Source {
+        match number {
+            0 => Source::Recording,
+            1 => Source::GuardList,
+            2 => Source::Left,
+            3 => Source::Right,
+            _ => Source::Text,
+        }
     }
 }
 
-// A text and a number.
-fn put_named(out: &mut [u8], at: usize, text: &[u8], n: u64) -> usize
-    ensures place { result ≡ behind (length out.old) at (text.now ++ decimal n) }
-    ensures contents { out.new ≡ written out.old at (text.now ++ decimal n) }
+#[tactic(auto, unfolding(crate::specs::Phrase::source_text, output::specs::Output::bytes))]
+pub fn put_source(out: &mut Text<'_>, source: Source)
+    ensures { Appended out.old out.new (source_text source) }
 {
-    let p = put_text(out, at, text);
-    put_decimal(out, p, n)
+    match source {
+        Source::Recording => out.put_text(b"the recording"),
+        Source::GuardList => out.put_text(b"the guard list"),
+        Source::Left => out.put_text(b"the left recording"),
+        Source::Right => out.put_text(b"the right recording"),
+        Source::Text => out.put_text(b"the text"),
+    }
+}
+
+// Some words and a number.
+fn put_named(out: &mut Text<'_>, words: &[u8], number: u64)
+    ensures { Appended out.old out.new (words.now ++ decimal number) }
+{
+    out.put_text(words);
+    out.put_decimal(number);
 }
 
 // A place as a line, counted from 1, and as a place, counted from 0.
-pub fn put_line(out: &mut [u8], at: usize, place: u32) -> usize
-    ensures place { result ≡ behind (length out.old) at (line_text place) }
-    ensures contents { out.new ≡ written out.old at (line_text place) }
+pub fn put_line(out: &mut Text<'_>, place: u32)
+    ensures { Appended out.old out.new (line_text place) }
 {
-    let n = place as u64;
-    let p = put_named(out, at, b"line ", n + 1);
-    let q = put_named(out, p, b" [", n);
-    put_byte(out, q, 93)
+    let place = place as u64;
+    put_named(out, b"line ", place + 1);
+    put_named(out, b" [", place);
+    out.put_byte(b']');
 }
 
-fn put_action(out: &mut [u8], at: usize, a: Action) -> usize
-    ensures place { result ≡ behind (length out.old) at (action_text a) }
-    ensures contents { out.new ≡ written out.old at (action_text a) }
+#[tactic(auto, unfolding(crate::specs::Phrase::action_text, output::specs::Output::bytes))]
+fn put_action(out: &mut Text<'_>, action: Action)
+    ensures { Appended out.old out.new (action_text action) }
 {
-    match a {
-        Action::Acquire(l) => put_named(out, at, b"acquire of lock ", l.0 as u64),
-        Action::Release(l) => put_named(out, at, b"release of lock ", l.0 as u64),
-        Action::Read(v) => put_named(out, at, b"read of variable ", v.0 as u64),
-        Action::Write(v) => put_named(out, at, b"write of variable ", v.0 as u64),
-        Action::Begin => put_text(out, at, b"begin"),
-        Action::End => put_text(out, at, b"end"),
+    match action {
+        Action::Acquire(lock) => put_named(out, b"acquire of lock ", lock.0 as u64),
+        Action::Release(lock) => put_named(out, b"release of lock ", lock.0 as u64),
+        Action::Read(variable) => put_named(out, b"read of variable ", variable.0 as u64),
+        Action::Write(variable) => put_named(out, b"write of variable ", variable.0 as u64),
+        Action::Begin => out.put_text(b"begin"),
+        Action::End => out.put_text(b"end"),
     }
 }
 
 // What a frame does.
-pub fn put_frame(out: &mut [u8], at: usize, d: Result<Frame, Refusal>) -> usize
-    ensures place { result ≡ behind (length out.old) at (decoded_text d) }
-    ensures contents { out.new ≡ written out.old at (decoded_text d) }
+#[tactic(auto, unfolding(crate::specs::Phrase::decoded_text, output::specs::Output::bytes))]
+pub fn put_frame(out: &mut Text<'_>, decoded: Result<Frame, Refusal>)
+    ensures { Appended out.old out.new (decoded_text decoded) }
 {
-    match d {
-        Ok(f) => {
-            let a = f.action;
-            put_action(out, at, a)
-        }
-        Err(r) => put_text(out, at, b"no frame"),
+    match decoded {
+        Ok(frame) => put_action(out, frame.action),
+        Err(_) => out.put_text(b"no frame"),
     }
 }
 
 // The variable that a frame reads or writes.
-pub fn variable_of(d: Result<Frame, Refusal>) -> Variable
-    ensures { result ≡ variable_in d }
+pub fn variable_of(decoded: Result<Frame, Refusal>) -> Variable
+    ensures { result ≡ variable_in decoded }
 {
-    let Ok(f) = d else {
-        return Variable(0);
-    };
-    let a = f.action;
-    match a {
-        Action::Acquire(l) => Variable(0),
-        Action::Release(l) => Variable(0),
-        Action::Read(v) => v,
-        Action::Write(v) => v,
-        Action::Begin => Variable(0),
-        Action::End => Variable(0),
+    match decoded {
+        Ok(
+            Frame {
+                action: Action::Read(variable) | Action::Write(variable),
+                ..
+            },
+        ) => variable,
+        _ => Variable(0),
     }
 }

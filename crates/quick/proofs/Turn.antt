@@ -62,23 +62,23 @@ module _ (o c d : List ℕ) (t b : ℕ) where
   abbrev counted : ℕ → ℕ
   counted op = count + picked op 1 1 0 - picked op 2 1 0
 
-  abbrev above : ℕ → ℕ
-  above op = depth + 1 + picked op 5 1 0 - picked op 6 1 0
+  abbrev nested : ℕ → ℕ
+  nested op = depth + picked op 5 1 0 - picked op 6 1 0
 
   -- a word of an operation that passes the tests steps to what is stored
   abbrev pub Turn : ℕ → Type 0
   Turn op =
       b < object_end op → picked owner 0 1 0 ≡ picked count 0 1 0 → count < held_end op (t + 1) owner → count ≤ most_held - picked op 1 1 0
-      → depth ≤ deepest - picked op 5 1 0 → 1 ≤ above op
+      → depth ≤ deepest - picked op 5 1 0 → picked op 6 1 0 ≤ depth + picked op 5 1 0
       → (x : Level)
       × (step_decoded (decode_parts op t b) (state_of o c d)
       ≡ stepped (Ok x)
-      (state_of (set o lock (owner_after op (t + 1) owner (counted op))) (set c lock (counted op)) (set d t (above op - 1))))
+      (state_of (set o lock (owner_after op (t + 1) owner (counted op))) (set c lock (counted op)) (set d t (nested op))))
 
   module _ (small : t < thread_count) where
     -- the depth and the count stay
-    same_depth : set d t (depth + 1 + 0 - 0 - 1) ≡ d
-    same_depth = let q : depth + 1 + 0 - 0 - 1 ≡ depth = omega arith in rw q (set-get_or d t 0)
+    same_depth : set d t (depth + 0 - 0) ≡ d
+    same_depth = let q : depth + 0 - 0 ≡ depth = omega arith in rw q (set-get_or d t 0)
 
     same_count : set c lock (count + 0 - 0) ≡ c
     same_count = let q : count + 0 - 0 ≡ count = omega arith in rw q (set-get_or c lock 0)
@@ -133,14 +133,14 @@ module _ (o c d : List ℕ) (t b : ℕ) where
     unfolding decode_parts step_action
     turn_5 hb z w v u l =
         let y : b ≡ 0 = omega arith in
-        let q : depth + 1 + 1 - 0 - 1 ≡ depth + 1 = omega arith in
+        let q : depth + 1 - 0 ≡ depth + 1 = omega arith in
         (Outer, rw (lt-leb thread_count t small, eq-eqb b 0 y, lt-leb deepest depth (omega arith), set-get_or o lock 0, same_count, q))
 
     turn_6 : Turn 6
     unfolding decode_parts step_action
     turn_6 hb z w v u l =
         let y : b ≡ 0 = omega arith in
-        let q : depth + 1 + 0 - 1 - 1 ≡ depth - 1 = omega arith in
+        let q : depth + 0 - 1 ≡ depth - 1 = omega arith in
         (Outer, rw (lt-leb thread_count t small, eq-eqb b 0 y, ne_eqb depth 0 (λ e. omega arith), set-get_or o lock 0, same_count, q))
 
     pub turn : (op : ℕ) → 1 ≤ op → op ≤ 6 → Turn op

@@ -4,98 +4,87 @@
 #![tactic(auto)]
 
 ghost use Rattle.std.specs.Prelude.{◌≡◌, eqb, not};
-ghost use Rattle.soundness.specs.Soundness.{state_of, check_reply};
+ghost use Rattle.soundness.specs.Soundness.{check_reply};
 ghost use Rattle.quick.specs.Quick.{picked, object_end, held_end, owner_after, PassedBy, PassedTo};
 
-use frame::{DEEPEST, LOCKS, MOST, MOST_HELD, MOST_PLACE, Refusal, Refused, THREADS, VARIABLES};
+use frame::{DEEPEST, LOCKS, MOST, MOST_HELD, MOST_PLACE, Refusal, Refused, Thread, VARIABLES};
+use soundness::State;
 
-const LOCK_END: u32 = LOCKS as u32;
+const LOCK_END: u16 = LOCKS as u16;
 
-const VARIABLE_END: u32 = VARIABLES as u32;
+const VARIABLE_END: u16 = VARIABLES as u16;
 
 const HELD_END: u8 = MOST_HELD + 1;
 
 // One number where n is k, and another for all others.
-fn pick(n: u32, k: u32, a: u8, b: u8) -> u8
+fn pick(n: u8, k: u8, a: u8, b: u8) -> u8
     ensures { result ≡ picked n k a b }
 {
-    if n == k {
-        return a;
-    }
-    b
+    if n == k { a } else { b }
 }
 
 // The first object that an operation cannot have.
-fn object_end(op: u32) -> u32
+fn object_end(op: u8) -> u16
     ensures { result ≡ object_end op }
 {
     if op <= 2 {
-        return LOCK_END;
+        LOCK_END
+    } else if op <= 4 {
+        VARIABLE_END
+    } else {
+        1
     }
-    if op <= 4 {
-        return VARIABLE_END;
-    }
-    1
 }
 
 // Whether a lock has an owner and is not held, or is held by none. It is so of no lock; a state in which it were is left to crate soundness.
-fn differ(have: u8, count: u8) -> bool
-    ensures { result ≡ not (eqb (picked have 0 1 0) (picked count 0 1 0)) }
+fn differ(owner: u8, count: u8) -> bool
+    ensures { result ≡ not (eqb (picked owner 0 1 0) (picked count 0 1 0)) }
 {
-    pick(have as u32, 0, 1, 0) != pick(count as u32, 0, 1, 0)
+    pick(owner, 0, 1, 0) != pick(count, 0, 1, 0)
 }
 
 // The first count of its lock with which an operation does not pass: its thread's own lock may be held as often as any, another or a free
 // one has to be free for an acquire, and a release does not pass. What is no acquire and no release passes in any case.
-fn held_end(op: u32, own: u8, have: u8) -> u8
-    ensures { result ≡ held_end op own have }
+fn held_end(op: u8, own: u8, owner: u8) -> u8
+    ensures { result ≡ held_end op own owner }
 {
     pick(
-        have as u32,
-        own as u32,
+        owner,
+        own,
         HELD_END,
         pick(op, 1, 1, pick(op, 2, 0, HELD_END)),
     )
 }
 
 // The lock's owner after an operation that leaves it held n times.
-fn owner_after(op: u32, own: u8, have: u8, n: u8) -> u8
-    ensures { result ≡ owner_after op own have n }
+fn owner_after(op: u8, own: u8, owner: u8, n: u8) -> u8
+    ensures { result ≡ owner_after op own owner n }
 {
-    if op <= 2 {
-        return pick(n as u32, 0, 0, own);
-    }
-    have
+    if op <= 2 { pick(n, 0, 0, own) } else { owner }
 }
 
 // One word. Where its frame passes, the locks and blocks are as it leaves them; else they stay.
-fn passes(
-    owners: &mut [u8; LOCKS],
-    counts: &mut [u8; LOCKS],
-    depths: &mut [u8; THREADS],
-    w: u32,
-) -> bool
-    ensures { PassedBy result w (state_of owners.old counts.old depths.old) (state_of owners.new counts.new depths.new) }
+fn passes(state: &mut State, word: u32) -> bool
+    ensures { PassedBy result word state.old state.new }
 {
-    let Some(p) = frame::split_word(w) else {
+    let Some(parts) = frame::split_word(word) else {
         return false;
     };
-    let op = p.operation as u32;
-    let thread = p.thread.0;
-    let object = p.object as u32;
-    if object_end(op) <= object {
+    let op = parts.operation;
+    let Thread(thread) = parts.thread;
+    if object_end(op) <= parts.object {
         return false;
     }
-    let k = (object % LOCK_END) as usize;
-    let j = thread as usize;
+    let l = usize::from(parts.object) % LOCKS;
+    let t = usize::from(thread);
     let own = thread + 1;
-    let have = owners[k];
-    let count = counts[k];
-    let d = depths[j];
-    if differ(have, count) {
+    let owner = state.owners[l];
+    let count = state.counts[l];
+    let depth = state.depths[t];
+    if differ(owner, count) {
         return false;
     }
-    if held_end(op, own, have) <= count {
+    if held_end(op, own, owner) <= count {
         return false;
     }
     let taken = pick(op, 1, 1, 0);
@@ -103,38 +92,30 @@ fn passes(
         return false;
     }
     let begun = pick(op, 5, 1, 0);
-    if DEEPEST - begun < d {
+    if DEEPEST - begun < depth {
         return false;
     }
-    let above = d + 1 + begun - pick(op, 6, 1, 0);
-    if above < 1 {
+    let ended = pick(op, 6, 1, 0);
+    if depth + begun < ended {
         return false;
     }
     let n = count + taken - pick(op, 2, 1, 0);
-    owners[k] = owner_after(op, own, have, n);
-    counts[k] = n;
-    depths[j] = above - 1;
+    state.owners[l] = owner_after(op, own, owner, n);
+    state.counts[l] = n;
+    state.depths[t] = depth + begun - ended;
     true
 }
 
 // The frames from the start that pass: how many, and what they leave.
-fn passed(
-    words: &[u32],
-    owners: &mut [u8; LOCKS],
-    counts: &mut [u8; LOCKS],
-    depths: &mut [u8; THREADS],
-) -> usize
-    ensures { PassedTo words.now result (state_of owners.old counts.old depths.old) (state_of owners.new counts.new depths.new) }
+fn passed(words: &[u32], state: &mut State) -> usize
+    ensures { PassedTo words.now result state.old state.new }
 {
-    let mut i = 0;
-    while i < words.len() {
-        if passes(owners, counts, depths, words[i]) {
-            i += 1;
-        } else {
+    for (i, &word) in words.iter().enumerate() {
+        if !passes(state, word) {
             return i;
         }
     }
-    i
+    words.len()
 }
 
 // A whole recording.
@@ -142,14 +123,9 @@ pub fn check(words: &[u32]) -> Result<(), Refused>
     ensures { result ≡ check_reply words.now }
 {
     if MOST < words.len() {
-        return Err(Refused {
-            reason: Refusal::TooLong,
-            place: MOST_PLACE,
-        });
+        return Err(Refusal::TooLong.at(MOST_PLACE));
     }
-    let mut owners = [0u8; LOCKS];
-    let mut counts = [0u8; LOCKS];
-    let mut depths = [0u8; THREADS];
-    let from = passed(words, &mut owners, &mut counts, &mut depths);
-    soundness::check_from(words, &mut owners, &mut counts, &mut depths, from)
+    let mut state = State::new();
+    let from = passed(words, &mut state);
+    state.check_from(words, from)
 }

@@ -10,6 +10,7 @@ use native.Mathlib.Omega.{arith}
 use lib.Dec.{eqb}
 use lib.ListN.{length}
 use borrow.Author.Tests.{eqb-true, eqb-false, eq-eqb, ne_eqb}
+use Rattle.std.proofs.lemmas.List.{map-append}
 use Rattle.laws.proofs.Logic.{by_test}
 use Rattle.frame.specs.declared.Frame.{Frame}
 use Rattle.soundness.specs.Soundness.{nest}
@@ -64,8 +65,7 @@ bucket_all Q c (x ∷ l) a = go (eqb x.key c) refl (bucket_all Q c l a.1)
     go false e ih = ih
 
 pub frames_append : {A : Type 0} (l r : List (Keyed A)) → frames (l ++ r) ≡ frames l ++ frames r
-frames_append [] r = refl
-frames_append {A} (x ∷ l) r = ap (λ (k : List A). x.frame ∷ k) (frames_append l r)
+frames_append l r = map-append (λ x. x.frame) l r
 
 -- Where all neighbours may be exchanged, every list is in order.
 all_ordered : {A : Type 0} (l : List (Keyed A)) → Ordered (λ x y. true) l

@@ -3,7 +3,7 @@
 use mathlib.Core.Path.{◌≡◌, refl, sym, ap}
 use mathlib.Core.Logic.{◌⊎◌, inl, inr}
 use mathlib.Core.Bool.{Bool, true, false, cond}
-use mathlib.Core.List.{List, [], ◌∷◌, ◌++◌}
+use mathlib.Core.List.{List, [], ◌∷◌, ◌++◌, map}
 use Prim.Native.Nat.{ℕ, zero, suc, ◌+◌, ◌≤◌, ◌<◌}
 use native.Mathlib.Omega.{arith}
 use lib.Dec.{leb, eqb}
@@ -14,12 +14,10 @@ use Rattle.reduction.proofs.Run.{Keyed}
 
 module _ {A : Type 0} where
   abbrev pub frames : List (Keyed A) → List A
-  frames [] = []
-  frames (x ∷ l) = x.frame ∷ frames l
+  frames l = map (λ x. x.frame) l
 
   abbrev pub keys : List (Keyed A) → List ℕ
-  keys [] = []
-  keys (x ∷ l) = x.key ∷ keys l
+  keys l = map (λ x. x.key) l
 
   -- An element passes only smaller keys.
   abbrev pub insert : Keyed A → List (Keyed A) → List (Keyed A)
@@ -97,17 +95,14 @@ module _ {A : Type 0} where
 
   -- Every key is at least c.
   abbrev AtLeast : ℕ → List (Keyed A) → Type 0
-  AtLeast c [] = Unit {0}
-  AtLeast c (x ∷ l) = (c ≤ x.key) × AtLeast c l
+  AtLeast c l = All (λ x. c ≤ x.key) l
 
   -- Every key is at least c and less than e.
   abbrev pub Within : ℕ → ℕ → List (Keyed A) → Type 0
-  Within c e [] = Unit {0}
-  Within c e (x ∷ l) = ((c ≤ x.key) × (x.key < e)) × Within c e l
+  Within c e l = All (λ x. (c ≤ x.key) × (x.key < e)) l
 
   weaken : (b c : ℕ) (l : List (Keyed A)) → b ≤ c → AtLeast c l → AtLeast b l
-  weaken b c [] h a = tt
-  weaken b c (x ∷ l) h a = (omega (arith, a.0), weaken b c l h a.1)
+  weaken b c l h a = all_map (λ x k. omega arith) l a
 
   at_least_append : (c : ℕ) (l r : List (Keyed A)) → AtLeast c l → AtLeast c r → AtLeast c (l ++ r)
   at_least_append c [] r a b = b

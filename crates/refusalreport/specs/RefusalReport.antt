@@ -1,17 +1,10 @@
 -- A call's refusal in words.
 use Rattle.std.specs.Prelude.{ℕ, ◌/◌, ◌%◌, cond, List, [], eqb, ltb, length}
-use Rattle.frame.specs.Refusal.{refused_at}
+use Rattle.frame.specs.Refusal.{refusals, refusal_by, refused_at}
+use Rattle.phrase.specs.Phrase.{source_named}
 use Rattle.phrase.specs.declared.Source.{Source}
-use Rattle.phrase.specs.declared.Source.TheVariants as source
-use Rattle.kept.specs.Kept.{refusals, refusal_by}
 use Rattle.linereport.specs.LineReport.{other_text}
 use Rattle.linefault.specs.LineFault.{refused_text}
-
--- What the numbers of `enum trace_source` (include/trace_library.h) name.
-abbrev pub source_named : ℕ → Source
-source_named n =
-    cond (eqb n 0) source.Recording
-    (cond (eqb n 1) source.GuardList (cond (eqb n 2) source.Left (cond (eqb n 3) source.Right source.Text)))
 
 -- The refusal of a number at a place; a number 0 is none, and one above the last is "which this check does not give" (docs/TOOL.md).
 abbrev pub numbered_text : ℕ → ℕ → Source → List ℕ → List ℕ → List ℕ

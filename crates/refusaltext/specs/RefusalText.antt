@@ -1,5 +1,5 @@
 -- Refusals in words. What the slots of a sentence stand for is said by `piece` (crate sentence).
-use Rattle.std.specs.Prelude.{ℕ, ◌+◌, ◌-◌, Bool, true, false, cond, List, eqb, ltb}
+use Rattle.std.specs.Prelude.{ℕ, Bool, true, false, List}
 use Prim.Native.String.{String}
 use Rattle.frame.specs.declared.Refusal.{Refusal}
 use Rattle.frame.specs.declared.Refusal.TheVariants as refusal
@@ -45,11 +45,6 @@ refusal_sentence refusal.TooOften true =
     "refused: number 20, @ of %, * by thread &, takes a lock that this thread holds 15 times already; hold it at most 15 times.\n"
 refusal_sentence refusal.TooOften false = "refused: number 20, @ of % takes a lock that its thread holds 15 times already; hold it at most 15 times.\n"
 refusal_sentence refusal.MovesBuffer k = "refused: number 21, the list of displacements has fewer than # numbers; lend one for each frame.\n"
-
--- The line of a sentence in the text of them all: the sentences by their numbers, then those of 7 to 10 and of 20 whose frame is not known.
-abbrev pub sentence_line : ℕ → Bool → ℕ
-sentence_line n true = n - 1
-sentence_line n false = cond (ltb n 7) (n - 1) (cond (ltb n 11) (n + 14) (cond (eqb n 20) 25 (n - 1)))
 
 -- "Each refusal is one sentence that says what to mend." (docs/TOOL.md)
 abbrev pub refusal_text : Source → List ℕ → Refused → List ℕ

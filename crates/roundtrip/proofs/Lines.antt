@@ -1,19 +1,18 @@
 -- Reading a written verdict line, and writing what was read. In this order: a begin or a commit, over any width; digits behind digits; a field of
 -- a written line; the written line read; a read line taken apart, and written; the line of a reply.
-use Rattle.std.specs.Prelude.{Result, Ok, Err, Option, Some, None}
-use Prim.Native.Nat.{ℕ, ◌+◌, ◌%◌, ◌≤◌, ◌<◌}
+use Rattle.std.specs.Prelude.{Ok, Option, Some, None}
+use Prim.Native.Nat.{ℕ, ◌+◌, ◌≤◌, ◌<◌}
 use mathlib.Core.Path.{◌≡◌, refl, sym, ap, ◌∙◌}
-use mathlib.Core.Bool.{Bool, true, false}
+use mathlib.Core.Bool.{true}
 use mathlib.Core.List.{List, [], ◌∷◌, ◌++◌, append_assoc}
 use native.Mathlib.Omega.{arith}
 use native.Mathlib.Nat.{one-le-pow}
-use borrow.Author.Tests.{eq-eqb, ne_eqb, eqb-true, lt-ltb, ltb-false}
-use lib.Dec.{eqb, ltb}
+use borrow.Author.Tests.{eq-eqb, ne_eqb}
 use lib.ListN.{length, get_or, take, drop, length-append, length-drop, take-append-drop}
 use lib.Seq.{take-suc, take_all, take-add, take_at, drop_at, get_or_at, length-take-le}
-use Rattle.laws.proofs.Logic.{never}
+use Rattle.std.proofs.lemmas.Bool.Decides.{nat_tests}
 use Rattle.laws.proofs.Lists.{part}
-use Rattle.digits.specs.Digits.{digit_of, all_digits, digits, too_wide}
+use Rattle.digits.specs.Digits.{all_digits, digits, too_wide}
 use Rattle.digits.proofs.Writing.{length_digits}
 use Rattle.digits.proofs.Inverse.{written_digits_read, read_digits_write}
 use Rattle.digits.proofs.Numbers.{digits_said, said_digits}
@@ -23,9 +22,8 @@ use Rattle.line.proofs.Laws.{length_fields_line}
 use Rattle.reply.specs.Reply.{Reply}
 use Rattle.kept.specs.Kept.{kept_by}
 use Rattle.kept.proofs.Laws.{reply_told}
-use Rattle.fields.specs.Fields.{is_kind, no_line, number_in, line_fields, written_line}
+use Rattle.fields.specs.Fields.{is_kind, number_in, line_fields}
 use Rattle.roundtrip.specs.Lines.{read_back, MarkHeld, WrittenMarksRead, Held, fields_back, WrittenLineReads, ReadLineWrites, KeptLinesTell}
-use Rattle.frame.specs.declared.Refused.{Refused}
 
 -- a begin or a commit, in n digits
 mark_held : (n : ℕ) (m : Option ℕ) → MarkHeld n m → mark_field n m < too_wide n
@@ -42,31 +40,20 @@ written_marks_read n m h = (mark_field n m, written_digits_read n (mark_field n 
 
 -- the number of a begin or a commit that is read is written again
 mark_again : (n v : ℕ) → mark_field n (field_mark n v) ≡ v
-mark_again n v = go (eqb v (absent_in n)) refl
-  where
-    go : (b : Bool) → eqb v (absent_in n) ≡ b → mark_field n (field_mark n v) ≡ v
-    go true e = rw e (sym (eqb-true v (absent_in n) e))
-    go false e = rw e
+mark_again n v = grind (arith, nat_tests)
 
 -- digits behind digits, and a part of digits
 all_append : (xs ys : List ℕ) → all_digits xs ≡ true → all_digits ys ≡ true → all_digits (xs ++ ys) ≡ true
 unfolding all_digits
 all_append [] ys a b = b
-all_append (x ∷ xs) ys a b = go (ltb 15 (digit_of x)) refl (all_append xs ys)
-  where
-    go : (t : Bool) → ltb 15 (digit_of x) ≡ t → (all_digits xs ≡ true → all_digits ys ≡ true → all_digits (xs ++ ys) ≡ true) → all_digits (x ∷ xs ++ ys) ≡ true
-    go true q ih = let z : false ≡ true = rw q at a in never (cc)
-    go false q ih = rw q (ih (rw q at a) b)
+all_append (x ∷ xs) ys a b = grind (arith, nat_tests, all_append xs ys)
 
 all_apart : (xs ys : List ℕ) → all_digits (xs ++ ys) ≡ true → (all_digits xs ≡ true) × (all_digits ys ≡ true)
 unfolding all_digits
 all_apart [] ys e = (refl, e)
-all_apart (x ∷ xs) ys e = go (ltb 15 (digit_of x)) refl (all_apart xs ys)
-  where
-    go : (t : Bool) → ltb 15 (digit_of x) ≡ t → (all_digits (xs ++ ys) ≡ true → (all_digits xs ≡ true) × (all_digits ys ≡ true))
-        → (all_digits (x ∷ xs) ≡ true) × (all_digits ys ≡ true)
-    go true q ih = let z : false ≡ true = rw q at e in never (cc)
-    go false q ih = let r = ih (rw q at e) in (rw q r.0, r.1)
+all_apart (x ∷ xs) ys e =
+    let r = all_apart xs ys (grind (arith, nat_tests)) in
+    (grind (arith, nat_tests), r.1)
 
 -- a field of a line: its digits stand between a front and a rest
 field_number : (l a c : List ℕ) (at n v : ℕ) → l ≡ a ++ (digits n v ++ c) → length a ≡ at → v < too_wide n → number_in l at n ≡ v
@@ -154,11 +141,10 @@ module _ (f : Fields) (h : Held f) where
 
 -- Fields that are written read back.
 pub written_line_reads : WrittenLineReads
-written_line_reads f h e = go (is_kind f.kind) refl
-  where
-    go : (b : Bool) → is_kind f.kind ≡ b → line_fields (written_line f).line ≡ Ok (fields_back f)
-    go true k = rw k (line_back f h k)
-    go false k = let z : ◌≡◌ {A = LineReply} (line.Refused no_line) line.Written = rw k at e in never (cc)
+written_line_reads f l h e =
+    let k : is_kind f.kind ≡ true = grind (arith, nat_tests) in
+    let w : fields_line f ≡ l = grind (arith, nat_tests) in
+    rw (← w) (line_back f h k)
 
 -- a line that is read: 33 bytes, LF, and digits before it
 module _ (l : List ℕ) (long : length l ≡ line_length) (feed : get_or l line_end 0 ≡ 10) (all : all_digits (take line_end l) ≡ true) where
@@ -210,22 +196,12 @@ module _ (l : List ℕ) (long : length l ≡ line_length) (feed : get_or l line_
 pub read_line_writes : ReadLineWrites
 unfolding line_fields
 read_line_writes l f e =
-    go (eqb (length l) line_length) refl (eqb (get_or l line_end 0) 10) refl (all_digits (take line_end l)) refl (is_kind (number_in l 0 kind_width)) refl
-  where
-    no : {A : Type 0} → ◌≡◌ {A = (Result Fields Refused)} (Err no_line) (Ok f) → A
-    no z = never (cc)
-
-    go : (a : Bool) → eqb (length l) line_length ≡ a → (b : Bool) → eqb (get_or l line_end 0) 10 ≡ b → (c : Bool) → all_digits (take line_end l) ≡ c
-        → (d : Bool) → is_kind (number_in l 0 kind_width) ≡ d → written_line f ≡ record { reply = line.Written; line = l }
-    go false p b q c r d k = no (rw p at e)
-    go true p false q c r d k = no (rw (p, q) at e)
-    go true p true q false r d k = no (rw (p, q, r) at e)
-    go true p true q true r false k = no (rw (p, q, r, k) at e)
-    go true p true q true r true k =
-        let g = fields_again l (eqb-true (length l) line_length p) (eqb-true (get_or l line_end 0) 10 q) r in
-        let z : ◌≡◌ {A = Result Fields Refused} (Ok g) (Ok f) = rw (p, q, r, k) at e in
-        let s : g ≡ f = cc in
-        rw (← s, k, line_again l (eqb-true (length l) line_length p) (eqb-true (get_or l line_end 0) 10 q) r)
+    let n : length l ≡ line_length = grind (arith, nat_tests) in
+    let feed : get_or l line_end 0 ≡ 10 = grind (arith, nat_tests) in
+    let all : all_digits (take line_end l) ≡ true = grind (arith, nat_tests) in
+    let k : is_kind (number_in l 0 kind_width) ≡ true = grind (arith, nat_tests) in
+    let s : fields_again l n feed all ≡ f = grind (arith, nat_tests) in
+    rw (← s, k, line_again l n feed all)
 
 -- a begin or a commit that its digits tell reads back as it is
 told_held : (n : ℕ) (m : Option ℕ) → MarkTold n m → MarkHeld n m
@@ -239,13 +215,7 @@ told_back n None h = refl
 -- a kind that tells a reply reads
 told_kind : (k : ℕ) (f : Fields) (r : Reply) → kept_by k f ≡ Ok r → is_kind k ≡ true
 unfolding kept_by
-told_kind k f r e = go (ltb k 5) refl (ltb k 129) refl
-  where
-    go : (a : Bool) → ltb k 5 ≡ a → (b : Bool) → ltb k 129 ≡ b → is_kind k ≡ true
-    go true p b q = rw p
-    go false p true q =
-        let z : ◌≡◌ {A = Result Reply ℕ} (Err (k % 128)) (Ok r) = rw (ne_eqb k 0 (λ (h : k ≡ 0). omega (arith, h, ltb-false k 5 p)), p, q) at e in never (cc)
-    go false p false q = rw p (lt-ltb 128 k (ltb-false k 129 q))
+told_kind k f r e = grind (arith, nat_tests)
 
 -- The line of a reply tells it.
 pub kept_lines_tell : KeptLinesTell

@@ -3,7 +3,7 @@
 use Rattle.std.specs.Prelude.{Result, Ok, Err, Some}
 use Prim.Native.Nat.{ℕ, zero, suc, ◌+◌, ◌-◌, ◌*◌, ◌/◌, ◌≤◌, ◌<◌}
 use mathlib.Core.Path.{◌≡◌, refl, sym, ap, ◌∙◌}
-use mathlib.Core.List.{List, [], ◌∷◌, ◌++◌, append_assoc, append-nil}
+use mathlib.Core.List.{List, [], ◌∷◌, ◌++◌, append_assoc}
 use native.Mathlib.Omega.{arith}
 use borrow.Author.Tests.{lt-ltb, le-ltb, ltb-true, ltb-false}
 use lib.Dec.{ltb}
@@ -15,7 +15,7 @@ use Rattle.frame.specs.Limits.{most_frames}
 use Rattle.frame.specs.Frame.{decode_parts, decode_word}
 use Rattle.frame.specs.declared.Refusal.TheVariants as refusal
 use Rattle.digits.specs.Digits.{line_of, word_line, lines_of, pasted}
-use Rattle.digits.proofs.Writing.{length_word_line, length_lines}
+use Rattle.digits.proofs.Writing.{length_word_line, length_lines, lines_behind}
 use Rattle.digits.proofs.Inverse.{line_read, line_written}
 use Rattle.soundness.specs.Soundness.{check_reply}
 use Rattle.soundness.proofs.Laws.{sound_fits, sound_not_bad}
@@ -121,12 +121,6 @@ written_recording_reads ws text words at sound room fits = (
   rw (stretch ws text at sound room) (reads_lines ws words sound fits),
   rw (stretch ws text at sound room) (reads_words ws words sound fits),
 )
-
--- one line more behind others
-lines_behind : (ws : List ℕ) (w : ℕ) → lines_of (ws ++ (w ∷ [])) ≡ lines_of ws ++ word_line w
-unfolding lines_of
-lines_behind [] w = append-nil (word_line w)
-lines_behind (x ∷ ws) w = ap (λ (l : List ℕ). word_line x ++ l) (lines_behind ws w) ∙ sym (append_assoc (word_line x) (lines_of ws) (word_line w))
 
 -- the lines of the words that a text gives are the text
 module _ (s : List ℕ) (n : ℕ) (lines : (i : ℕ) → i < n → line_of s (9 * i) ≡ Some (word_at s i)) where

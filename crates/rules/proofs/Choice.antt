@@ -332,7 +332,7 @@ module _ (guards : List ℕ) (i : ℕ) (s : State) (j : Judging) (w : ℕ) (ws :
     where
       judge_case : (f : Frame) → decode_word w ≡ Ok f → (x : Level) → (step_frame f s).outcome ≡ Ok x
           → (v : Verdict) → (judge_frame guards i f s j).verdict ≡ v → Goes guards i s j w
-      judge_case f e x g (Ok tt) a = record { frame = f; is = e; level = x; sound = g; right = a }
+      judge_case f e x g (Ok _) a = record { frame = f; is = e; level = x; sound = g; right = a }
       judge_case f e x g (Err v) a = let z : violated v ≡ reducible = rw (e, a, g) at r in never (cc)
 
       step_case : (f : Frame) → decode_word w ≡ Ok f → (o : Result Level Refusal) → (step_frame f s).outcome ≡ o → Goes guards i s j w

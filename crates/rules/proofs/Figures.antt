@@ -47,35 +47,35 @@ use Rattle.rules.proofs.Told.{Told, goes, wrong, frame_told}
 use Rattle.frame.specs.declared.Refusal.{Refusal}
 
 -- What the rules make of an operation.
-pub data Result : Type 0 where
-  to : Store → Result
-  amiss : Kind → Result
+pub data Outcome : Type 0 where
+  to : Store → Outcome
+  amiss : Kind → Outcome
 
 module _ (P : ℕ → Guard) (s : State) (φ : Store) (t : ℕ) where
   -- the rules of an acquire, of a release and of an access to an unprotected variable, by the stage
-  abbrev acquire_rule : Stage → Result
+  abbrev acquire_rule : Stage → Outcome
   acquire_rule Outside = to φ
   acquire_rule PreCommit = to φ
   acquire_rule PostCommit = amiss AcquireAfterCommit
 
-  abbrev release_rule : Stage → Result
+  abbrev release_rule : Stage → Outcome
   release_rule Outside = to φ
   release_rule PreCommit = to (put_stage φ t PostCommit)
   release_rule PostCommit = to (put_stage φ t PostCommit)
 
-  abbrev race_rule : Stage → Result
+  abbrev race_rule : Stage → Outcome
   race_rule Outside = to φ
   race_rule PreCommit = to (put_stage φ t PostCommit)
   race_rule PostCommit = amiss UnprotectedAfterCommit
 
   -- of an access, by the guard
-  abbrev access_rule : Variable → Guard → Result
+  abbrev access_rule : Variable → Guard → Outcome
   access_rule x (Locked m) = cond (eqb (owner_of m s) (t + 1)) (to φ) (amiss GuardNotHeld)
   access_rule x Unprotected = race_rule (φ.stage t)
   access_rule x Inferred = cond (eqb (shared P s φ t x) 0) (amiss SetEmptied) (to (put_locks φ x.0 (shared P s φ t x)))
 
   -- of any action
-  abbrev pub rule : Action → Result
+  abbrev pub rule : Action → Outcome
   rule (action.Acquire m) = cond (eqb (owner_of m s) (t + 1)) (to φ) (acquire_rule (φ.stage t))
   rule (action.Release m) = cond (leb (count_of m s) 1) (release_rule (φ.stage t)) (to φ)
   rule (action.Read x) = access_rule x (P x.0)
@@ -131,7 +131,7 @@ abbrev onward : Answer → Answer
 onward fine = fine
 onward (first i k) = first (suc i) k
 
-abbrev on_result : Result → (Store → Answer) → Answer
+abbrev on_result : Outcome → (Store → Answer) → Answer
 on_result (to φ) rest = onward (rest φ)
 on_result (amiss k) rest = first 0 k
 

@@ -84,9 +84,9 @@ one_violation P ws v u a p x y =
 
 -- The rules leave one verdict.
 pub rules_fix_the_reply : RulesFixTheReply
-rules_fix_the_reply P ws (Ok tt) (Ok tt) (a, b, c) (d, e, f) = refl
-rules_fix_the_reply P ws (Ok tt) (Err u) (a, b, c) (d, e, f) = let y = d.1 (a.0 refl) in never (cc)
-rules_fix_the_reply P ws (Err v) (Ok tt) (a, b, c) (d, e, f) = let y = a.1 (d.0 refl) in never (cc)
+rules_fix_the_reply P ws (Ok _) (Ok _) (a, b, c) (d, e, f) = refl
+rules_fix_the_reply P ws (Ok _) (Err u) (a, b, c) (d, e, f) = let y = d.1 (a.0 refl) in never (cc)
+rules_fix_the_reply P ws (Err v) (Ok _) (a, b, c) (d, e, f) = let y = a.1 (d.0 refl) in never (cc)
 rules_fix_the_reply P ws (Err v) (Err u) (a, b, c) (d, e, f) =
     let (w, y, g, h) = (e v.frame v.kind).1 ((b v.frame v.kind).0 (v, refl, refl, refl)) in
     let z : u ≡ w = cc in

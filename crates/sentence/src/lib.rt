@@ -1,14 +1,13 @@
-// Sentences with slots in them, written into a lent buffer from a place on, as far as there is room. Each function replies the place behind
-// what it wrote.
+// Sentences with slots in them.
 
 #![tactic(auto)]
 
-ghost use Rattle.std.specs.Prelude.{◌≡◌, length};
-ghost use Rattle.output.specs.Output.{behind, written};
+ghost use Rattle.std.specs.Prelude.{◌≡◌};
+ghost use Rattle.output.specs.Output.{Appended};
 ghost use Rattle.sentence.specs.Sentence.{piece, known, filled};
 
 use frame::{Frame, Refusal, Thread};
-use output::{put_byte, put_decimal, put_locks};
+use output::Text;
 use phrase::Source;
 
 // What a sentence can speak of: a place, the frame there, a thread, the block's begin and commit, the frame that committed, and locks.
@@ -25,58 +24,37 @@ pub struct Facts {
 }
 
 // One byte of a sentence, or what it stands for.
-fn put_piece(out: &mut [u8], at: usize, c: u8, f: Facts) -> usize
-    ensures place { result ≡ behind (length out.old) at (piece f c) }
-    ensures contents { out.new ≡ written out.old at (piece f c) }
+#[tactic(auto, unfolding(crate::specs::Sentence::piece))]
+fn put_piece(out: &mut Text<'_>, byte: u8, facts: Facts)
+    ensures { Appended out.old out.new (piece facts byte) }
 {
-    match c {
-        b'@' => phrase::put_line(out, at, f.place),
-        b'<' => phrase::put_line(out, at, f.begin),
-        b'>' => phrase::put_line(out, at, f.commit),
-        b'%' => {
-            let s = f.source;
-            phrase::put_source(out, at, s)
-        }
-        b'*' => {
-            let d = f.frame;
-            phrase::put_frame(out, at, d)
-        }
-        b'^' => {
-            let d = f.by;
-            phrase::put_frame(out, at, d)
-        }
-        b'&' => put_decimal(out, at, f.thread.0 as u64),
-        b'$' => {
-            let d = f.frame;
-            let v = phrase::variable_of(d);
-            put_decimal(out, at, v.0 as u64)
-        }
-        b'~' => put_locks(out, at, f.locks),
-        b'#' => put_decimal(out, at, f.place as u64),
-        _ => put_byte(out, at, c),
+    match byte {
+        b'@' => phrase::put_line(out, facts.place),
+        b'<' => phrase::put_line(out, facts.begin),
+        b'>' => phrase::put_line(out, facts.commit),
+        b'%' => phrase::put_source(out, facts.source),
+        b'*' => phrase::put_frame(out, facts.frame),
+        b'^' => phrase::put_frame(out, facts.by),
+        b'&' => out.put_decimal(facts.thread.0 as u64),
+        b'$' => out.put_decimal(phrase::variable_of(facts.frame).0 as u64),
+        b'~' => out.put_locks(facts.locks),
+        b'#' => out.put_decimal(facts.place as u64),
+        _ => out.put_byte(byte),
     }
 }
 
 // Whether a frame is at hand.
-pub fn known(d: Result<Frame, Refusal>) -> bool
-    ensures { result ≡ known d }
+pub fn known(decoded: Result<Frame, Refusal>) -> bool
+    ensures { result ≡ known decoded }
 {
-    match d {
-        Ok(f) => true,
-        Err(r) => false,
-    }
+    decoded.is_ok()
 }
 
 // A sentence with its slots filled in.
-pub fn say(out: &mut [u8], at: usize, sentence: &[u8], f: Facts) -> usize
-    ensures place { result ≡ behind (length out.old) at (filled f sentence.now) }
-    ensures contents { out.new ≡ written out.old at (filled f sentence.now) }
+pub fn say(out: &mut Text<'_>, sentence: &[u8], facts: Facts)
+    ensures { Appended out.old out.new (filled facts sentence.now) }
 {
-    let mut p = at;
-    let mut i = 0;
-    while i < sentence.len() {
-        p = put_piece(out, p, sentence[i], f);
-        i += 1;
+    for byte in sentence {
+        put_piece(out, *byte, facts);
     }
-    p
 }

@@ -162,7 +162,7 @@ module _ (t : ℕ) (l : Lock) (s : State) where
 
 -- the place of a refusal, 0 of none
 abbrev place_of : Result Unit Refused → ℕ
-place_of (Ok tt) = 0
+place_of (Ok _) = 0
 place_of (Err r) = r.place
 
 outcome_place : (o : Result Level Refusal) (s : State) (i m : ℕ) (rest : State → Checked) → i ≤ m → ((n : State) → place_of (rest n).reply ≤ m)

@@ -1,7 +1,7 @@
 -- Laws of the definitions of specs/Text: scanning a text line by line, the words written, what an accepted text is like, and
 -- where another is refused.
 use Rattle.std.specs.Prelude.{Result, Ok, Err, Option, Some, None}
-use Prim.Native.Nat.{ℕ, zero, suc, ◌+◌, ◌*◌, ◌≤◌, ◌<◌}
+use Prim.Native.Nat.{ℕ, zero, suc, ◌+◌, ◌-◌, ◌*◌, ◌≤◌, ◌<◌}
 use mathlib.Core.Path.{◌≡◌, refl, sym, ap, ◌∙◌}
 use mathlib.Core.Bool.{Bool, true, false, cond}
 use mathlib.Core.List.{List, [], ◌∷◌, ◌++◌}
@@ -9,42 +9,48 @@ use native.Mathlib.Omega.{arith}
 use native.Mathlib.Numerals.{add-one}
 use lib.ListN.{length, get_or, take, drop, set, length-append, take-append-drop, drop_of_length-le, get_or-append}
 use lib.Seq.{drop-cons, drop-drop, take_at, get_or_at}
-use lib.Dec.{ltb, leb, eqb}
-use borrow.Author.Tests.{ltb-false, le-leb, lt-leb, leb-true, eqb-true, eqb-false}
+use lib.Dec.{leb, eqb}
+use borrow.Author.Tests.{leb-true, eqb-true, eqb-false}
+use Rattle.std.proofs.lemmas.Bool.Decides.{nat_tests}
 use Rattle.laws.proofs.Logic.{never, either, from_here}
 use Rattle.laws.proofs.Lists.{front_next}
 use Rattle.frame.specs.Limits.{most_frames}
 use Rattle.frame.specs.Refusal.{refused_at}
 use Rattle.frame.specs.declared.Refusal.TheVariants as refusal
-use Rattle.text.specs.Text.{word_at, if_line, scan_from, scanned, reached, words_to, room_reply, read_reply, read_words, linefeeds, LinesAreLinefeeds}
-use Rattle.digits.specs.Digits.{Digits, value, none, digit_of, digits_value, line_of}
+use Rattle.text.specs.Text.{word_at, numbered, line_at, if_line, scan_from, scanned, reached, words_to, room_reply, read_reply, read_words, linefeeds, LinesAreLinefeeds}
+use Rattle.digits.specs.Digits.{value, digit_of, digits_value, line_of}
 use Rattle.digits.proofs.Laws.{Shown, shown}
 use Rattle.frame.specs.declared.Refused.{Refused}
 
--- the lines from line i on
-module _ (s : List ℕ) (i : ℕ) where
-  pub scan_done : (k : ℕ) → length s ≤ 9 * i → scan_from k s i ≡ Ok i
-  unfolding scan_from
-  scan_done zero h = rw (le-leb (length s) (9 * i) h)
-  scan_done (suc k) h = rw (le-leb (length s) (9 * i) h)
+-- what is answered where line i is q: it ends the text, is refused, or the answer comes from the lines behind it
+abbrev pub answered : ℕ → Result (Option ℕ) Refused → Result ℕ Refused → Result ℕ Refused
+answered i (Ok (Some w)) behind = behind
+answered i (Ok None) behind = Ok i
+answered i (Err r) behind = Err r
 
-  pub scan_over : 9 * i < length s → scan_from 0 s i ≡ Err (refused_at refusal.TooLong most_frames)
-  unfolding scan_from
-  scan_over h = rw (lt-leb (length s) (9 * i) h)
+-- one line more
+pub scan_line : (s : List ℕ) (i : ℕ) → i < most_frames
+    → scan_from (most_frames - i) s i ≡ answered i (line_at s i) (scan_from (most_frames - (i + 1)) s (i + 1))
+unfolding scan_from
+scan_line s i h =
+    let n : most_frames - i ≡ suc (most_frames - (i + 1)) = omega arith in
+    rw n (go (leb (length s) (9 * i)) (line_of s (9 * i)) (scan_from (most_frames - (i + 1)) s (i + 1)))
+  where
+    go : (b : Bool) (l : Option ℕ) (behind : Result ℕ Refused) → cond b (Ok i) (if_line l behind (Err (refused_at refusal.Line i))) ≡ answered i (cond b (Ok None) (numbered i l)) behind
+    go true (Some w) behind = refl
+    go true None behind = refl
+    go false (Some w) behind = refl
+    go false None behind = refl
 
-  pub scan_step : (k m : ℕ) → k ≡ suc m → 9 * i < length s
-      → scan_from k s i ≡ if_line (line_of s (9 * i)) (scan_from m s (i + 1)) (Err (refused_at refusal.Line i))
-  unfolding scan_from
-  scan_step k m e h = rw (e, lt-leb (length s) (9 * i) h)
+-- the word of a line
+pub line_word : (s : List ℕ) (i w : ℕ) → line_at s i ≡ Ok (Some w) → w ≡ word_at s i
+unfolding word_at
+line_word s i w e = grind (arith, nat_tests)
 
 -- behind the 4,096th line all lines are read
 pub full_reached : (s : List ℕ) → reached (scan_from 0 s most_frames) ≡ most_frames
 unfolding scan_from
-full_reached s = go (leb (length s) (9 * most_frames))
-  where
-    go : (b : Bool) → reached (cond b (Ok most_frames) (Err (refused_at refusal.TooLong most_frames))) ≡ most_frames
-    go true = refl
-    go false = refl
+full_reached s = either (λ r. reached r ≡ most_frames) (leb (length s) (9 * most_frames)) refl refl
 
 pub length_words_to : (s : List ℕ) (n : ℕ) → length (words_to s n) ≡ n
 unfolding words_to
@@ -71,22 +77,13 @@ words_turn s ws i w h e = rw (e, front_next (words_to s i) ws i (word_at s i) (l
 linefeeds_append : (xs ys : List ℕ) → linefeeds (xs ++ ys) ≡ linefeeds xs + linefeeds ys
 unfolding linefeeds
 linefeeds_append [] ys = omega arith
-linefeeds_append (b ∷ bs) ys = go (linefeeds_append bs ys) (eqb b 10) refl
-  where
-    go : linefeeds (bs ++ ys) ≡ linefeeds bs + linefeeds ys → (t : Bool) → eqb b 10 ≡ t → linefeeds (b ∷ bs ++ ys) ≡ linefeeds (b ∷ bs) + linefeeds ys
-    go ih true q = rw q (omega arith)
-    go ih false q = rw q ih
+linefeeds_append (b ∷ bs) ys = grind (arith, nat_tests, linefeeds_append bs ys)
 
 -- an LF is no digit
 linefeeds_digits : (v : ℕ) (xs : List ℕ) (r : ℕ) → digits_value v xs ≡ value r → linefeeds xs ≡ 0
 unfolding linefeeds digits_value digit_of
 linefeeds_digits v [] r e = refl
-linefeeds_digits v (b ∷ bs) r e = go (linefeeds_digits (v * 16 + digit_of b) bs r) (ltb 15 (digit_of b)) refl (eqb b 10) refl
-  where
-    go : (digits_value (v * 16 + digit_of b) bs ≡ value r → linefeeds bs ≡ 0) → (t : Bool) → ltb 15 (digit_of b) ≡ t → (u : Bool) → eqb b 10 ≡ u → linefeeds (b ∷ bs) ≡ 0
-    go ih true q u p = let f : ◌≡◌ {A = Digits} none (value r) = rw q at e in never (cc)
-    go ih false q true p = let f : true ≡ false = rw (eqb-true b 10 p) at q in never (cc)
-    go ih false q false p = rw p (ih (rw q at e))
+linefeeds_digits v (b ∷ bs) r e = grind (arith, nat_tests, linefeeds_digits (v * 16 + digit_of b) bs r)
 
 -- a line has one LF
 linefeeds_line : (s : List ℕ) (at w : ℕ) → Shown s at w → linefeeds (drop at s) ≡ linefeeds (drop (at + 9) s) + 1
@@ -161,15 +158,8 @@ module _ (s : List ℕ) (n : ℕ) (e : scanned s ≡ Ok n) where
 
 -- What reading answers: n lines where the text has n lines and the buffer room for them.
 room : (m n : ℕ) (q : Result ℕ Refused) → room_reply m q ≡ Ok n → (n ≤ m) × (q ≡ Ok n)
-room m n (Ok k) e = go (ltb m k) refl
-  where
-    go : (t : Bool) → ltb m k ≡ t → (n ≤ m) × (◌≡◌ {A = Result ℕ Refused} (Ok k) (Ok n))
-    go true q = let f : ◌≡◌ {A = Result ℕ Refused} (Err (refused_at refusal.WordBuffer k)) (Ok n) = rw q at e in never (cc)
-    go false q =
-        let f : ◌≡◌ {A = Result ℕ Refused} (Ok k) (Ok n) = rw q at e in
-        let g : k ≡ n = cc in
-        (omega (arith, ltb-false m k q), f)
-room m n (Err r) e = never (cc)
+room m n (Ok k) e = (grind (arith, nat_tests), grind (arith, nat_tests))
+room m n (Err r) e = absurd (cc)
 
 module _ (s : List ℕ) (m n : ℕ) (e : read_reply s m ≡ Ok n) where
   pub read_room : n ≤ m
@@ -227,3 +217,20 @@ scan_place (suc k) s i h =
 
 pub reached_limit : (s : List ℕ) → reached (scanned s) ≤ most_frames
 reached_limit s = scan_place most_frames s 0 (omega arith)
+
+-- and not before the line that it is scanned from
+pub reached_from : (s : List ℕ) (k i : ℕ) → i + k ≤ most_frames → i ≤ reached (scan_from k s i)
+unfolding scan_from
+reached_from s zero i h = either (λ r. i ≤ reached r) (leb (length s) (9 * i)) (omega arith) (omega arith)
+reached_from s (suc k) i h =
+    either (λ r. i ≤ reached r) (leb (length s) (9 * i)) (omega arith) (go (line_of s (9 * i)) (reached_from s k (i + 1) (omega arith)))
+  where
+    go : (l : Option ℕ) → i + 1 ≤ reached (scan_from k s (i + 1)) → i ≤ reached (if_line l (scan_from k s (i + 1)) (Err (refused_at refusal.Line i)))
+    go (Some w) ih = omega arith
+    go None ih = omega arith
+
+-- but behind a line that is a word
+pub reached_behind : (s : List ℕ) (i w : ℕ) → i < most_frames → scanned s ≡ scan_from (most_frames - i) s i → line_at s i ≡ Ok (Some w) → i < reached (scanned s)
+reached_behind s i w h e l =
+    let r = reached_from s (most_frames - (i + 1)) (i + 1) (omega arith) in
+    rw (e, scan_line s i h, l) (omega (arith, r))

@@ -20,6 +20,14 @@ abbrev pub if_line : Option ℕ → Result ℕ Refused → Result ℕ Refused �
 if_line (Some w) a b = a
 if_line None a b = b
 
+-- Line i: its word, none where the text ends before it, or why it is refused.
+abbrev pub numbered : ℕ → Option ℕ → Result (Option ℕ) Refused
+numbered i (Some w) = Ok (Some w)
+numbered i None = Err (refused_at refusal.Line i)
+
+abbrev pub line_at : List ℕ → ℕ → Result (Option ℕ) Refused
+line_at s i = cond (leb (length s) (9 * i)) (Ok None) (numbered i (line_of s (9 * i)))
+
 -- The lines from line i on, of which k more may come.
 -- "1: not eight digits 0-9 A-F and an LF (blank, lower case, CR, unfinished last line)", at the line;
 -- "2: a byte stands after the 4,096th line .. comes before 1 for that line", at 4096.

@@ -1,32 +1,38 @@
 -- Laws of the lines of a text.
-use Prim.Native.Nat.{ℕ, zero, suc, ◌+◌, ◌-◌, ◌<◌, ◌≤◌}
-use mathlib.Core.Path.{◌≡◌, refl, ap, sym}
-use mathlib.Core.Bool.{Bool, true, false}
+use Prim.Native.Nat.{ℕ, suc, ◌+◌, ◌-◌, ◌<◌, ◌≤◌}
+use mathlib.Core.Path.{◌≡◌, refl, ap, sym, ◌∙◌}
+use mathlib.Core.Bool.{Bool, true, false, cond}
+use Rattle.std.specs.Prelude.{Option, Some, None}
+use Rattle.std.specs.Option.{MatchOption}
+use Rattle.std.specs.List.{position_or_len, position_from}
+use Rattle.std.proofs.lemmas.Iterator.Adapters.{position_from-zero}
 use mathlib.Core.List.{List, [], ◌∷◌}
 use native.Mathlib.Omega.{arith}
-use native.Mathlib.Numerals.{add-one}
-use native.Mathlib.Nat.{not-suc-le-zero}
-use borrow.Author.Tests.{eq-eqb, ne_eqb}
-use lib.Dec.{eqb}
-use lib.ListN.{length, take, drop, get_or, drop_of_length-le, length-drop}
-use lib.Seq.{drop-cons, drop-drop}
+use lib.Dec.{eqb, ltb}
+use lib.ListN.{length, take, drop, length-drop}
+use lib.Seq.{drop-drop}
 use Rattle.textlines.specs.Lines.{line_length, nth_line}
 
-module _ (t : List ℕ) (i : ℕ) (p : i < length t) where
-  -- a line ends at i
-  pub ends : get_or t i 0 ≡ 10 → line_length (drop i t) ≡ 1
-  unfolding line_length
-  ends e = rw (drop-cons t i 0 p, eq-eqb (get_or t i 0) 10 e)
-
-  -- it does not
-  pub goes_on : (get_or t i 0 ≡ 10 → ⊥) → line_length (drop i t) ≡ suc (line_length (drop (i + 1) t))
-  unfolding line_length
-  goes_on h = rw (add-one i, drop-cons t i 0 p, ne_eqb (get_or t i 0) 10 h)
-
-pub no_line : (t : List ℕ) (i : ℕ) → length t ≤ i → line_length (drop i t) ≡ 0
+ends_from : (t : List ℕ) (i : ℕ) → MatchOption (position_from (λ b. eqb b 10) i t) (line_length t ≡ length t) (λ j. i + line_length t ≡ j + 1)
 unfolding line_length
-no_line t i p =
-    let x : drop i t ≡ [] = drop_of_length-le t {i = i} p in rw x
+ends_from [] i = refl
+ends_from (c ∷ t) i = step (eqb c 10) (position_from (λ b. eqb b 10) (i + 1) t) (ends_from t (i + 1))
+  where
+    step : (b : Bool) (r : Option ℕ) → MatchOption r (line_length t ≡ length t) (λ j. (i + 1) + line_length t ≡ j + 1)
+        → MatchOption (cond b (Some i) r) (cond b 1 (suc (line_length t)) ≡ suc (length t)) (λ j. i + cond b 1 (suc (line_length t)) ≡ j + 1)
+    step true r h = refl
+    step false None h = ap suc h
+    step false (Some j) h = omega (arith, h)
+
+-- a line ends at the first LF, or where the text ends
+pub line_ends : (t : List ℕ) (r : Option ℕ) → r ≡ cond (ltb (position_or_len (λ b. eqb b 10) t) (length t)) (Some (position_or_len (λ b. eqb b 10) t)) None → MatchOption r (line_length t ≡ length t) (λ j. line_length t ≡ j + 1)
+line_ends t r e =
+    let f : r ≡ position_from (λ b. eqb b 10) 0 t = e ∙ position_from-zero (λ b. eqb b 10) t in
+    start r (rw (sym f) at (ends_from t 0))
+  where
+    start : (r : Option ℕ) → MatchOption r (line_length t ≡ length t) (λ j. 0 + line_length t ≡ j + 1) → MatchOption r (line_length t ≡ length t) (λ j. line_length t ≡ j + 1)
+    start None h = h
+    start (Some j) h = omega (arith, h)
 
 length_bound : (t : List ℕ) → line_length t ≤ length t
 unfolding line_length
@@ -41,12 +47,11 @@ length_bound (c ∷ t) = go (eqb c 10) refl (length_bound t)
 pub within : (t : List ℕ) (i : ℕ) → i ≤ length t → i + line_length (drop i t) ≤ length t
 within t i p = let h = length_bound (drop i t) in let e = length-drop i t in omega (arith, h, e, p)
 
--- the lines behind the first
-pub next_line : (t : List ℕ) (i k : ℕ) → 0 < k → nth_line (k - 1) (drop (i + line_length (drop i t)) t) ≡ nth_line k (drop i t)
+-- the lines behind the first k, as lines of what is left
+pub next_line : (t : List ℕ) (i n k : ℕ) → k < n → nth_line (n - (k + 1)) (drop (i + line_length (drop i t)) t) ≡ nth_line (n - k) (drop i t)
 unfolding nth_line
-next_line t i zero h = absurd (not-suc-le-zero h)
-next_line t i (suc k) h =
-    let e : suc k - 1 ≡ k = omega arith in rw e (sym (ap (nth_line k) (drop-drop (line_length (drop i t)) i t)))
+next_line t i n k h =
+    let e : n - k ≡ suc (n - (k + 1)) = omega arith in rw e (sym (ap (nth_line (n - (k + 1))) (drop-drop (line_length (drop i t)) i t)))
 
 -- the first line
 pub first_line : (t : List ℕ) (i e : ℕ) → e ≡ i + line_length (drop i t) → take (e - i) (drop i t) ≡ nth_line 0 (drop i t)

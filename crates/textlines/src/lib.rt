@@ -10,15 +10,10 @@ fn line_end(text: &[u8], start: usize) -> usize
     requires { start ≤ length text.now }
     ensures { result ≡ start + line_length (drop start text.now) }
 {
-    let mut e = start;
-    while e < text.len() {
-        let c = text[e];
-        e += 1;
-        if c == 10 {
-            return e;
-        }
+    match text[start..].iter().position(|byte| *byte == b'\n') {
+        Some(place) => start + place + 1,
+        None => text.len(),
     }
-    e
 }
 
 // Line n, counted from 0, with its line end; nothing where the text has no such line.
@@ -26,11 +21,8 @@ pub fn nth_line(text: &[u8], n: u8) -> &[u8]
     ensures { result.now ≡ nth_line n text.now }
 {
     let mut start = 0;
-    let mut k = n;
-    while k > 0 {
+    for _line in 0..n {
         start = line_end(text, start);
-        k -= 1;
     }
-    let e = line_end(text, start);
-    &text[start..e]
+    &text[start..line_end(text, start)]
 }

@@ -1,21 +1,19 @@
 -- What the functions for C programs answer and write, from the definitions of the crates below.
 -- Quotes are from docs/FORMAT.md.
-use Rattle.std.specs.Prelude.{ℕ, ◌+◌, cond, List, ◌++◌, ltb, length, drop, Result, Ok, Err}
+use Rattle.std.specs.Prelude.{ℕ, ◌+◌, cond, List, ◌++◌, ltb, length, drop, Result}
 use Rattle.frame.specs.Refusal.{refusal_number}
 use Rattle.frame.specs.declared.Refusal.TheVariants as refusal
-use Rattle.reply.specs.Reply.{Reply, packed}
+use Rattle.reply.specs.Reply.{Reply, answered}
 use Rattle.line.specs.Line.{line_length, verdict_line}
 use Rattle.verdict.specs.Verdict.{inferred_sets}
 use Rattle.answer.specs.Answer.{reply_kind}
 use Rattle.frame.specs.declared.Refused.{Refused}
 
 abbrev pub read_answer : Result ℕ Refused → ℕ
-read_answer (Ok n) = n
-read_answer (Err r) = packed r
+read_answer = answered
 
 abbrev pub guards_answer : Result ℕ Refused → ℕ
-guards_answer (Ok n) = n
-guards_answer (Err r) = packed r
+guards_answer = answered
 
 -- "The C entry returns the kind as a number"; "refused by 17 it returns 91 hexadecimal": 17 where the buffer, n bytes long, is "shorter
 -- than 33 bytes", "first of all".

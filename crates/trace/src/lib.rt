@@ -11,12 +11,13 @@ ghost use Rattle.verdict.specs.Verdict.{verdict_under, inferred_reply};
 ghost use Rattle.trace.specs.Trace.{read_answer, guards_answer, kind_answer, line_after, sets_after};
 ghost use Rattle.answer.specs.Answer.{text_judged};
 
-use guards::Judgement;
+use frame::{Refusal, VARIABLES};
+use guards::{Judgement, UNPROTECTED};
 
-// The bytes of a verdict line, and the kind where a line buffer has fewer: 80 hexadecimal plus 17.
+// The bytes of a verdict line, and the kind where a line buffer has fewer.
 const LINE: usize = line::LINE;
 
-const SHORT: u8 = 145;
+const SHORT: u8 = 0x80 + Refusal::LineBuffer as u8;
 
 // The planner's entry: recording text in, verdict line out, guards inferred.
 pub fn trace_check(text: &[u8], line: &mut [u8]) -> u8
@@ -26,9 +27,8 @@ pub fn trace_check(text: &[u8], line: &mut [u8]) -> u8
     if line.len() < LINE {
         return SHORT;
     }
-    let j = answer::judge_text(text);
-    let r = j.reply;
-    answer::answer(line, r, j.frames)
+    let judged = answer::judge_text(text);
+    answer::answer(line, judged.reply, judged.frames)
 }
 
 // A recording's text read into words.
@@ -36,23 +36,15 @@ pub fn trace_read(text: &[u8], words: &mut [u32]) -> u64
     ensures reply { result ≡ read_answer (read_reply text.now (length words.old)) }
     ensures contents { words.new ≡ read_words text.now words.old }
 {
-    let q = text::read_recording(text, words);
-    match q {
-        Ok(n) => n as u64,
-        Err(x) => reply::pack(x),
-    }
+    reply::answer(text::read_recording(text, words))
 }
 
 // A guard list checked.
 pub fn trace_guards(list: &[u8]) -> u64
     ensures { result ≡ guards_answer (guards_read list.now).reply }
 {
-    let g = guards::read_guards(list);
-    let q = g.reply;
-    match q {
-        Ok(n) => n as u64,
-        Err(x) => reply::pack(x),
-    }
+    let mut table = [UNPROTECTED; VARIABLES];
+    reply::answer(guards::read_guards(list, &mut table))
 }
 
 // The verdict with declared guards.
@@ -63,8 +55,8 @@ pub fn trace_declared(list: &[u8], words: &[u32], line: &mut [u8]) -> u8
     if line.len() < LINE {
         return SHORT;
     }
-    let r = verdict::judge(Judgement::Declared, list, words);
-    answer::answer(line, r, (words.len() % 4294967296) as u32)
+    let declared = verdict::judge(Judgement::Declared(list), words);
+    answer::answer(line, declared, (words.len() % 0x1_0000_0000) as u32)
 }
 
 // The verdict with inferred guards, and the candidate sets.
@@ -77,6 +69,6 @@ pub fn trace_inferred(words: &[u32], sets: &mut [u64], line: &mut [u8]) -> u8
     if room < LINE {
         return SHORT;
     }
-    let judged = verdict::inferred(words, sets);
-    answer::answer(line, judged, (words.len() % 4294967296) as u32)
+    let inferred = verdict::inferred(words, sets);
+    answer::answer(line, inferred, (words.len() % 0x1_0000_0000) as u32)
 }

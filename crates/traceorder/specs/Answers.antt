@@ -1,7 +1,7 @@
 -- The numbers that answer: the refusal's number in the high 32 bits and its place in the low 32 (`packed`), or what is answered.
 use Rattle.std.specs.Prelude.{ℕ, ◌+◌, ◌*◌, Result, Ok, Err, true, false, Bool}
 use Rattle.frame.specs.declared.Refused.{Refused}
-use Rattle.reply.specs.Reply.{packed}
+use Rattle.reply.specs.Reply.{packed, answered}
 use Rattle.equal.specs.declared.Side.{Side}
 use Rattle.equal.specs.declared.Side.TheVariants as side
 use Rattle.equal.specs.declared.RefusedSide.{RefusedSide}
@@ -18,5 +18,4 @@ equal_answer (Ok false) = 0
 equal_answer (Err x) = packed_side x.side x.refused
 
 abbrev pub order_answer : Result ℕ Refused → ℕ
-order_answer (Ok n) = n
-order_answer (Err r) = packed r
+order_answer = answered

@@ -10,17 +10,16 @@ ghost use Rattle.moves.specs.Moves.{moves_under, moves_out_under};
 ghost use Rattle.unitcommits.specs.UnitCommits.{commits_under, commits_out_under};
 ghost use Rattle.traceorder.specs.Answers.{packed_side, equal_answer, order_answer};
 
-use equal::Side;
-use frame::Refused;
+use equal::{RefusedSide, Side};
 use guards::Judgement;
 
 // A refusal of one side of a comparison as one number.
-fn pack_side(side: Side, r: Refused) -> u64
-    ensures { result ≡ packed_side side r }
+fn pack_side(refused: RefusedSide) -> u64
+    ensures { result ≡ packed_side refused.side refused.refused }
 {
-    match side {
-        Side::Left => reply::pack(r),
-        Side::Right => reply::pack(r) + 1099511627776,
+    match refused.side {
+        Side::Left => reply::pack(refused.refused),
+        Side::Right => reply::pack(refused.refused) + 0x100_0000_0000,
     }
 }
 
@@ -28,20 +27,10 @@ fn pack_side(side: Side, r: Refused) -> u64
 pub fn trace_equal(left: &[u32], right: &[u32]) -> u64
     ensures { result ≡ equal_answer (equal_reply left.now right.now) }
 {
-    let q = equal::equal(left, right);
-    match q {
+    match equal::equal(left, right) {
         Ok(true) => 1,
         Ok(false) => 0,
-        Err(x) => pack_side(x.side, x.refused),
-    }
-}
-
-fn pack_order(q: Result<u32, Refused>) -> u64
-    ensures { result ≡ order_answer q }
-{
-    match q {
-        Ok(n) => n as u64,
-        Err(x) => reply::pack(x),
+        Err(refused) => pack_side(refused),
     }
 }
 
@@ -50,8 +39,7 @@ pub fn trace_serial_declared(list: &[u8], words: &[u32], out: &mut [u32]) -> u64
     ensures reply { result ≡ order_answer (order_under Declared list.now words.now (length out.old)) }
     ensures contents { out.new ≡ out_under Declared list.now words.now out.old }
 {
-    let q = order::order(Judgement::Declared, list, words, out);
-    pack_order(q)
+    reply::answer(order::order(Judgement::Declared(list), words, out))
 }
 
 // The serial order with inferred guards.
@@ -59,8 +47,7 @@ pub fn trace_serial_inferred(words: &[u32], out: &mut [u32]) -> u64
     ensures reply { result ≡ order_answer (order_under Inferred [] words.now (length out.old)) }
     ensures contents { out.new ≡ out_under Inferred [] words.now out.old }
 {
-    let r = order::order(Judgement::Inferred, b"", words, out);
-    pack_order(r)
+    reply::answer(order::order(Judgement::Inferred, words, out))
 }
 
 // How far each frame moves, with declared guards.
@@ -68,8 +55,7 @@ pub fn trace_moves_declared(list: &[u8], words: &[u32], moves: &mut [i32]) -> u6
     ensures reply { result ≡ order_answer (moves_under Declared list.now words.now (length moves.old)) }
     ensures contents { moves.new ≡ moves_out_under Declared list.now words.now moves.old }
 {
-    let m = moves::moves(Judgement::Declared, list, words, moves);
-    pack_order(m)
+    reply::answer(moves::moves(Judgement::Declared(list), words, moves))
 }
 
 // How far each frame moves, with inferred guards.
@@ -77,8 +63,7 @@ pub fn trace_moves_inferred(words: &[u32], moves: &mut [i32]) -> u64
     ensures reply { result ≡ order_answer (moves_under Inferred [] words.now (length moves.old)) }
     ensures contents { moves.new ≡ moves_out_under Inferred [] words.now moves.old }
 {
-    let n = moves::moves(Judgement::Inferred, b"", words, moves);
-    pack_order(n)
+    reply::answer(moves::moves(Judgement::Inferred, words, moves))
 }
 
 // Where each unit commits, with declared guards.
@@ -86,8 +71,7 @@ pub fn trace_commits_declared(list: &[u8], words: &[u32], commits: &mut [u32]) -
     ensures reply { result ≡ order_answer (commits_under Declared list.now words.now) }
     ensures contents { commits.new ≡ commits_out_under Declared list.now words.now commits.old }
 {
-    let c = unitcommits::commits(Judgement::Declared, list, words, commits);
-    pack_order(c)
+    reply::answer(unitcommits::commits(Judgement::Declared(list), words, commits))
 }
 
 // Where each unit commits, with inferred guards.
@@ -95,6 +79,5 @@ pub fn trace_commits_inferred(words: &[u32], commits: &mut [u32]) -> u64
     ensures reply { result ≡ order_answer (commits_under Inferred [] words.now) }
     ensures contents { commits.new ≡ commits_out_under Inferred [] words.now commits.old }
 {
-    let d = unitcommits::commits(Judgement::Inferred, b"", words, commits);
-    pack_order(d)
+    reply::answer(unitcommits::commits(Judgement::Inferred, words, commits))
 }

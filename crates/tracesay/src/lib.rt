@@ -9,7 +9,7 @@ ghost use Rattle.names.specs.Names.{kind_name, refusal_name};
 ghost use Rattle.linereport.specs.LineReport.{line_report};
 ghost use Rattle.refusalreport.specs.RefusalReport.{refusal_report};
 
-use output::put_text;
+use output::Text;
 
 // The most bytes of a text.
 const TEXT: usize = 4096;
@@ -19,10 +19,11 @@ pub fn trace_say_verdict(line: &[u8], words: &[u32], out: &mut [u8]) -> usize
     ensures length { result ≡ length (line_report line.now words.now) }
     ensures contents { out.new ≡ written out.old 0 (line_report line.now words.now) }
 {
-    let mut text = [0u8; TEXT];
-    let n = linereport::line_report(line, words, &mut text);
-    put_text(out, 0, &text[..n]);
-    n
+    let mut whole = [0u8; TEXT];
+    let length = linereport::line_report(line, words, &mut whole);
+    let mut text = Text::over(out);
+    text.put_text(&whole[..length]);
+    length
 }
 
 // The refusal that a call replied.
@@ -36,10 +37,11 @@ pub fn trace_say_refusal(
     ensures length { result ≡ length (refusal_report reply source text.now words.now) }
     ensures contents { out.new ≡ written out.old 0 (refusal_report reply source text.now words.now) }
 {
-    let mut whole = [0u8; TEXT];
-    let n = refusalreport::refusal_report(reply, source, text, words, &mut whole);
-    put_text(out, 0, &whole[..n]);
-    n
+    let mut report = [0u8; TEXT];
+    let length = refusalreport::refusal_report(reply, source, text, words, &mut report);
+    let mut said = Text::over(out);
+    said.put_text(&report[..length]);
+    length
 }
 
 // A kept verdict line.
@@ -47,11 +49,7 @@ pub fn trace_say_line(line: &[u8], out: &mut [u8]) -> usize
     ensures length { result ≡ length (line_report line.now []) }
     ensures contents { out.new ≡ written out.old 0 (line_report line.now []) }
 {
-    let none = [0u32; 0];
-    let mut said = [0u8; TEXT];
-    let n = linereport::line_report(line, &none, &mut said);
-    put_text(out, 0, &said[..n]);
-    n
+    trace_say_verdict(line, &[], out)
 }
 
 // The name of a kind.

@@ -7,12 +7,11 @@ use Rattle.frame.specs.declared.Refusal.TheVariants as refusal
 use Rattle.line.specs.Line.{place_width, line_length, mark_field, field_mark}
 use Rattle.line.specs.declared.Fields.{Fields}
 use Rattle.fields.specs.Fields.{written_line}
-use Rattle.reply.specs.Reply.{packed}
+use Rattle.reply.specs.Reply.{packed, answered}
 use Rattle.frame.specs.declared.Refused.{Refused}
 
 abbrev pub write_answer : Result ℕ Refused → ℕ
-write_answer (Ok n) = n
-write_answer (Err r) = packed r
+write_answer = answered
 
 -- 0 for a line that is read.
 abbrev pub fields_answer : Result Fields Refused → ℕ

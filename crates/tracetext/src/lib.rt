@@ -9,7 +9,7 @@ ghost use Rattle.fields.specs.Fields.{line_fields};
 ghost use Rattle.tracetext.specs.Texts.{write_answer, fields_answer, left, kind_of, frame_of, thread_of, begin_of, commit_of, locks_of, given, write_line_answer, write_line_after};
 
 use fields::field_mark;
-use frame::{Refusal, Refused};
+use frame::Refusal;
 use line::{Fields, LINE, mark_field};
 
 // The bytes of a line as a place.
@@ -20,11 +20,7 @@ pub fn trace_write(words: &[u32], text: &mut [u8], place: usize) -> u64
     ensures reply { result ≡ write_answer (write_reply words.now (length text.old) place) }
     ensures contents { text.new ≡ text_after (write_reply words.now (length text.old) place) words.now text.old place }
 {
-    let q = writer::write_recording(words, text, place);
-    match q {
-        Ok(n) => n as u64,
-        Err(x) => reply::pack(x),
-    }
+    reply::answer(writer::write_recording(words, text, place))
 }
 
 // The fields of a verdict line.
@@ -45,20 +41,17 @@ pub fn trace_line_read(
     ensures commit { commit.new ≡ left commit_of (line_fields line.now) commit.old }
     ensures locks { locks.new ≡ left locks_of (line_fields line.now) locks.old }
 {
-    let q = fields::read_fields(line);
-    match q {
+    match fields::read_fields(line) {
         Ok(f) => {
-            let b = f.begin;
-            let c = f.commit;
             *kind = f.kind;
             *frame = f.frame;
             *thread = f.thread;
-            *begin = mark_field(b);
-            *commit = mark_field(c);
+            *begin = mark_field(f.begin);
+            *commit = mark_field(f.commit);
             *locks = f.locks;
             0
         }
-        Err(x) => reply::pack(x),
+        Err(refused) => reply::pack(refused),
     }
 }
 
@@ -76,24 +69,21 @@ pub fn trace_line_write(
     ensures contents { line.new ≡ write_line_after (given kind frame thread begin commit locks) line.old }
 {
     if line.len() < LINE {
-        return reply::pack(Refused {
-            reason: Refusal::LineBuffer,
-            place: LINE_PLACE,
-        });
+        return reply::pack(Refusal::LineBuffer.at(LINE_PLACE));
     }
-    let w = fields::write_fields(Fields {
-        kind: kind,
-        frame: frame,
-        thread: thread,
+    let fields = Fields {
+        kind,
+        frame,
+        thread,
         begin: field_mark(begin),
         commit: field_mark(commit),
-        locks: locks,
-    });
-    match w {
+        locks,
+    };
+    match fields::write_fields(fields) {
         Ok(l) => {
-            line::put_line(line, l);
+            line::put_line(line, &l);
             LINE as u64
         }
-        Err(x) => reply::pack(x),
+        Err(refusal) => reply::pack(refusal),
     }
 }

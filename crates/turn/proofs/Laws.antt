@@ -17,7 +17,7 @@ use Rattle.frame.specs.declared.Refusal.{Refusal}
 
 -- A frame that is refused or goes wrong leaves where the threads stand as it was.
 abbrev pub Kept : Result Unit Stop → Judging → Judging → Type 0
-Kept (Ok tt) j k = Unit {0}
+Kept (Ok _) j k = Unit {0}
 Kept (Err (stop.Refused r)) j k = k ≡ j
 Kept (Err (stop.Wrong v)) j k = k ≡ j
 
@@ -27,7 +27,7 @@ module _ (guards : List ℕ) (i : ℕ) (f : Frame) (s : State) (j : Judging) whe
     where
       judge_case : (x : Level) (n : State) → step_frame f s ≡ stepped (Ok x) n → (v : Verdict) (k : Judging) → judge_frame guards i f s j ≡ judged v k
           → Kept (turned guards i f s j).turn j (turned guards i f s j).judging
-      judge_case x n g (Ok tt) k a = rw (a, g) tt
+      judge_case x n g (Ok _) k a = rw (a, g) tt
       judge_case x n g (Err w) k a = rw (a, g) (wrong_keeps _ _ _ _ _ j w k a)
 
       step_case : (o : Result Level Refusal) (n : State) → step_frame f s ≡ stepped o n → Kept (turned guards i f s j).turn j (turned guards i f s j).judging

@@ -30,7 +30,7 @@ abbrev pub turned_to : Result Unit Stop → State → Judging → Turned
 turned_to t s j = record { turn = t; state = s; judging = j }
 
 abbrev pub by_verdict : Verdict → State → Judging → Turned
-by_verdict (Ok tt) s j = turned_to (Ok tt) s j
+by_verdict (Ok _) s j = turned_to (Ok tt) s j
 by_verdict (Err v) s j = turned_to (Err (stop.Wrong v)) s j
 
 abbrev pub by_outcome : Result Level Refusal → State → Judging → Turned → Turned
@@ -45,6 +45,6 @@ turned guards i f s j =
 
 -- The table of held sets after a frame: that of the owners again where the frame leads on, and else as it was before.
 abbrev pub FollowsAfter : Result Unit Stop → List ℕ → List ℕ → List ℕ → Type 0
-FollowsAfter (Ok tt) before held owners = Follows held owners
+FollowsAfter (Ok _) before held owners = Follows held owners
 FollowsAfter (Err (stop.Refused r)) before held owners = held ≡ before
 FollowsAfter (Err (stop.Wrong v)) before held owners = held ≡ before

@@ -5,7 +5,7 @@ use Rattle.frame.specs.Limits.{variable_count}
 use Rattle.frame.specs.declared.Refusal.TheVariants as refusal
 use Rattle.guards.specs.Guards.{inferred_guards, guards_under}
 use Rattle.guards.specs.Judgement.{Judgement}
-use Rattle.reply.specs.Reply.{refused, reducible, Reply}
+use Rattle.reply.specs.Reply.{refused, Reply}
 use Rattle.pass.specs.Pass.{Ended, full_sets, judgement}
 use Rattle.frame.specs.declared.Refused.{Refused}
 
@@ -38,8 +38,3 @@ table_after (Ok v) sets table = sets ++ drop variable_count table
 
 unfoldable pub inferred_sets : List ℕ → List ℕ → List ℕ
 inferred_sets ws table = table_after (inferred_reply ws (length table)) (inferred_end ws).judging.sets table
-
--- The refusal of a guard list (asked of no other).
-abbrev pub guards_refused : Result ℕ Refused → Reply
-guards_refused (Ok n) = reducible
-guards_refused (Err x) = Err x

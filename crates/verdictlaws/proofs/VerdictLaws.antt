@@ -94,7 +94,7 @@ inferred_is_some_list = (
 -- the kind of a reply is 0 exactly if it is reducible
 kind_zero : (r : Reply) → reply_kind r ≡ 0 → r ≡ reducible
 kind_zero (Err x) e = absurd (omega arith)
-kind_zero (Ok (Ok tt)) e = refl
+kind_zero (Ok (Ok _)) e = refl
 kind_zero (Ok (Err v)) e = absurd (some v.kind e)
   where
     some : (k : Kind) → kind_number k ≡ 0 → ⊥

@@ -1,3 +1,2 @@
--- Laws of the loop that writes lines, and of the reply.
+-- Laws of lines written.
 pub mod Lines
-pub mod Reply

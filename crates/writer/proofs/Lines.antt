@@ -1,35 +1,28 @@
--- One turn of the loop that writes lines, and its end: pasting the lines that are left into the text as it is gives what is to be written.
-use Prim.Native.Nat.{ℕ, ◌+◌, ◌-◌, ◌*◌, ◌≤◌, ◌<◌}
+-- Lines written: one more behind those of the words before, and lines in a part of a text.
+use Prim.Native.Nat.{ℕ, ◌+◌, ◌-◌, ◌*◌, ◌<◌}
 use mathlib.Core.Path.{◌≡◌}
-use mathlib.Core.List.{List}
+use mathlib.Core.List.{List, [], ◌++◌, append-nil}
 use native.Mathlib.Omega.{arith}
-use native.Mathlib.Nat.{add-zero, sub-zero}
 use native.Mathlib.Numerals.{add-one}
-use lib.ListN.{length, get_or, drop, drop_of_length-le, take-append-drop}
-use lib.Seq.{drop-cons}
+use borrow.Rule.Slice.PartMut.{put_mid}
+use lib.ListN.{length, get_or, take, drop, length-drop, drop_of_length-le}
+use lib.Seq.{take-suc, drop-drop, length-take-le}
+use Rattle.std.proofs.lemmas.Slice.{between_to_end}
 use Rattle.digits.specs.Digits.{word_line, lines_of, pasted}
-use Rattle.digits.proofs.Writing.{length_word_line, pasted_then}
+use Rattle.digits.proofs.Writing.{length_lines, lines_behind, part_next}
 
--- the lines of the words from place i on, pasted into a text at a place
-abbrev pub left : List ℕ → List ℕ → ℕ → ℕ → List ℕ
-left words text at i = pasted text at (9 * (length words - i)) (lines_of (drop i words))
+pub line_more : (words s text p : List ℕ) (i : ℕ) → i < length words → p ≡ word_line (get_or words i 0) → text ≡ lines_of (take i words) ++ drop (9 * i) s
+    → put_mid (9 * i) (9 * i + 9 - 9 * i) text p ≡ lines_of (take (i + 1) words) ++ drop (9 * (i + 1)) s
+line_more words s text p i h e f =
+    let l : length (lines_of (take i words)) ≡ 9 * i = omega (arith, length_lines (take i words), length-take-le i words (omega arith)) in
+    let n : 9 * i + 9 - 9 * i ≡ 9 = omega arith in
+    let m : 9 * (i + 1) ≡ 9 * i + 9 = omega arith in
+    rw (f, n, m, e, part_next (lines_of (take i words)) s (word_line (get_or words i 0)) (9 * i) 9 l, add-one i, take-suc words i 0 h, lines_behind (take i words) (get_or words i 0))
 
--- all of them
-pub left_all : (words text : List ℕ) (at : ℕ) → left words text at 0 ≡ pasted text at (9 * length words) (lines_of words)
-left_all words text at = simp sub-zero
-
--- one line more
-pub line_more : (words text p : List ℕ) (at i : ℕ) → i < length words → at + 9 * (length words - i) ≤ length text
-    → p ≡ pasted text at 9 (word_line (get_or words i 0)) → left words p (at + 9) (i + 1) ≡ left words text at i
-unfolding lines_of
-line_more words text p at i h room e =
-    let m : 9 * (length words - i) ≡ 9 + 9 * (length words - (i + 1)) = omega arith in
-    let w = get_or words i 0 in
-    rw (e, pasted_then text (word_line w) at 9 (length_word_line w) (omega arith) (9 * (length words - (i + 1))) (lines_of (drop (i + 1) words)), m, drop-cons words i 0 h, add-one i)
-
--- no line is left
-pub lines_end : (words text : List ℕ) (at i : ℕ) → length words ≤ i → left words text at i ≡ text
-unfolding lines_of
-lines_end words text at i h =
-    let z : length words - i ≡ 0 = omega arith in
-    rw (z, drop_of_length-le words {i = i} h, add-zero at) (take-append-drop at text)
+-- lines at the front of the part from a place on
+pub in_place : (ws text : List ℕ) (at : ℕ) {out : List ℕ} → out ≡ lines_of ws ++ drop (9 * length ws) (take (length text - at) (drop at text))
+    → put_mid at (length text - at) text out ≡ pasted text at (9 * length ws) (lines_of ws)
+in_place ws text at {out} e =
+    let t : take (length text - at) (drop at text) ≡ drop at text = between_to_end text at (length text) (omega arith) in
+    let d : drop (length text - at) (drop at text) ≡ [] = drop_of_length-le (drop at text) (simp length-drop (omega arith)) in
+    rw (e, t, d, drop-drop, append-nil)

@@ -2,11 +2,12 @@
 
 #![tactic(auto)]
 
-ghost use Rattle.std.specs.Prelude.{◌≡◌, ◌+◌, ◌*◌, ◌≤◌, length};
-ghost use Rattle.digits.specs.Digits.{word_line, lines_of, pasted};
+ghost use Rattle.std.specs.Prelude.{◌≡◌, ◌*◌, ◌≤◌, ◌++◌, length, drop};
+ghost use Rattle.digits.specs.Digits.{lines_of};
 ghost use Rattle.frame.specs.Limits.{most_frames};
 ghost use Rattle.writer.specs.Writer.{room_reply, write_reply, text_after};
 
+use digits::word_line;
 use frame::{Refusal, Refused};
 
 // Whether a text of so many bytes has room from a place on for the lines of so many frames.
@@ -15,41 +16,19 @@ fn room(frames: usize, size: usize, place: usize) -> Result<u32, Refused>
     ensures { result ≡ room_reply frames size place }
 {
     let bytes = 9 * frames as u32;
-    if size < place {
-        return Err(Refused {
-            reason: Refusal::TextBuffer,
-            place: bytes,
-        });
-    }
-    if size - place < bytes as usize {
-        return Err(Refused {
-            reason: Refusal::TextBuffer,
-            place: bytes,
-        });
+    if size < place || size - place < bytes as usize {
+        return Err(Refusal::TextBuffer.at(bytes));
     }
     Ok(bytes)
 }
 
-// The line of a word, written at a place.
-fn put_line(text: &mut [u8], at: usize, w: u32)
-    requires { at + 9 ≤ length text.old }
-    ensures { text.new ≡ pasted text.old at 9 (word_line w) }
+// The lines of words, at the front of a text. The rest is left.
+fn write_lines(words: &[u32], text: &mut [u8])
+    requires { 9 * length words.now ≤ length text.old }
+    ensures { text.new ≡ lines_of words.now ++ drop (9 * length words.now) text.old }
 {
-    digits::put(text, at, 8, w as u64);
-    text[at + 8] = 10;
-}
-
-// The lines of words, written from a place on.
-fn write_lines(words: &[u32], text: &mut [u8], place: usize)
-    requires { place + 9 * length words.now ≤ length text.old }
-    ensures { text.new ≡ pasted text.old place (9 * length words.now) (lines_of words.now) }
-{
-    let mut at = place;
-    let mut i = 0;
-    while i < words.len() {
-        put_line(text, at, words[i]);
-        at += 9;
-        i += 1;
+    for (i, &w) in words.iter().enumerate() {
+        text[9 * i..9 * i + 9].copy_from_slice(&word_line(w));
     }
 }
 
@@ -58,16 +37,8 @@ pub fn write_recording(words: &[u32], text: &mut [u8], place: usize) -> Result<u
     ensures reply { result ≡ write_reply words.now (length text.old) place }
     ensures contents { text.new ≡ text_after (write_reply words.now (length text.old) place) words.now text.old place }
 {
-    let q = quick::check(words);
-    match q {
-        Err(x) => Err(x),
-        Ok(()) => {
-            let r = room(words.len(), text.len(), place);
-            let Ok(_) = r else {
-                return r;
-            };
-            write_lines(words, text, place);
-            r
-        }
-    }
+    quick::check(words)?;
+    let bytes = room(words.len(), text.len(), place)?;
+    write_lines(words, &mut text[place..]);
+    Ok(bytes)
 }

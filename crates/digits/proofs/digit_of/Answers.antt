@@ -1,11 +1,13 @@
 -- The distance from 0, and a letter behind it.
-use mathlib.Core.Path.{◌∙◌}
-use Rattle.digits.proofs.Numbers.{digit_near, digit_far}
-use borrow.Author.Rules.{rules}
+use Rattle.std.proofs.Common.{rules, tests, arith}
+use Rattle.std.proofs.lemmas.Bool.Decides.{nat_tests}
+use Rattle.digits.specs.Digits.{letter_of, digit_of}
 use Rattle.digits.proofs.digit_of.Goals as goal
 
 pub returns-then-from-lt10 : goal.returns-then-from-lt10
-returns-then-from-lt10 c = digit_near c.args.b (search rules) c.if-from-lt10.true
+unfolding digit_of
+returns-then-from-lt10 c = search (rules, tests)
 
-pub returns : goal.returns
-returns c = c.letter_of-letter.ensures ∙ digit_far c.args.b (search rules) c.if-from-lt10.false
+pub returns-else-from-lt10 : goal.returns-else-from-lt10
+unfolding letter_of digit_of
+returns-else-from-lt10 c = grind (arith, nat_tests)

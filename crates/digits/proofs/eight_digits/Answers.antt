@@ -1,34 +1,26 @@
-use Prim.Native.Nat.{◌+◌}
 use mathlib.Core.Path.{◌≡◌, ◌∙◌}
 use native.Mathlib.Omega.{arith}
-use native.Mathlib.Nat.{add-zero, sub-zero}
-use borrow.Author.Rules.{rules}
-use lib.ListN.{take, drop}
-use Rattle.digits.proofs.Sums.{sum_from, eight, sum_turn, sum_end, sum_more, value_fits, power_below}
+use lib.ListN.{drop_of_length-le}
+use Rattle.digits.proofs.Sums.{sum_from, eight, sum_more, bound_more, value_fits, power_below}
 use Rattle.digits.proofs.eight_digits.Goals as goal
 
-pub loop-k-init : goal.loop-k-init
-loop-k-init c = (omega arith, omega arith, simp (add-zero, sub-zero))
-
 pub overflow_mul-v : goal.overflow_mul-v
-overflow_mul-v c = omega (arith, power_below c.loop-k.k (omega arith))
+overflow_mul-v c = omega (arith, power_below c.loop-b.b-index (omega arith))
 
 pub overflow_add-v : goal.overflow_add-v
-overflow_add-v c = omega (arith, power_below c.loop-k.k (omega arith), value_fits _ _ c.digit_value.ensures)
+overflow_add-v c = omega (arith, power_below c.loop-b.b-index (omega arith), value_fits _ _ c.digit_value.ensures)
 
-pub loop-k-preserved : goal.loop-k-preserved
-loop-k-preserved c =
-    let l = c.loop-k in
-    let a = c.args in (
-      omega arith,
-      sum_more l.v l.k c.digit_value.result l.invariant.1 (value_fits _ _ c.digit_value.ensures),
-      l.invariant.2 ∙ sum_turn a.s.now a.at l.v l.k c.digit_value.result (search rules) (search rules) c.digit_value.ensures,
-    )
+pub loop-b-preserved : goal.loop-b-preserved
+loop-b-preserved c =
+    let l = c.loop-b in
+    record {
+      bounded = bound_more l.v l.b-index c.digit_value.result l.invariant.bounded (value_fits _ _ c.digit_value.ensures);
+      sum = l.invariant.sum ∙ sum_more c.args.s.now l.v l.b-index c.digit_value.result c.loop-b-test.true c.digit_value.ensures;
+    }
 
 pub returns : goal.returns
+unfolding sum_from
 returns c =
-    let l = c.loop-k in
-    let a = c.args in
-    let e : l.k ≡ 8 = omega arith in
-    let q : sum_from 0 (take 8 (drop a.at a.s.now)) ≡ l.v = l.invariant.2 ∙ rw e (sum_end a.s.now (a.at + 8) l.v) in
-    eight a.s.now a.at (search rules) ∙ rw q
+    let l = c.loop-b in
+    let e : sum_from 0 c.args.s.now ≡ l.v = l.invariant.sum ∙ rw (drop_of_length-le c.args.s.now {i = l.b-index} c.loop-b-test.false) in
+    eight c.args.s.now c.requires ∙ rw e

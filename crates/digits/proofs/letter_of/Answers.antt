@@ -1,10 +1,13 @@
 -- The distance from A.
-use Rattle.digits.proofs.Numbers.{letter_near, letter_far}
-use borrow.Author.Rules.{rules}
+use Rattle.std.proofs.Common.{rules, tests, arith}
+use Rattle.std.proofs.lemmas.Bool.Decides.{nat_tests}
+use Rattle.digits.specs.Digits.{letter_of}
 use Rattle.digits.proofs.letter_of.Goals as goal
 
 pub returns-then-from-lt6 : goal.returns-then-from-lt6
-returns-then-from-lt6 c = letter_near c.args.b (search rules) c.if-from-lt6.true
+unfolding letter_of
+returns-then-from-lt6 c = search (rules, tests)
 
-pub returns : goal.returns
-returns c = letter_far c.args.b (search rules) c.if-from-lt6.false
+pub returns-else-from-lt6 : goal.returns-else-from-lt6
+unfolding letter_of
+returns-else-from-lt6 c = grind (arith, nat_tests)

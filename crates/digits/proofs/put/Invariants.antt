@@ -1,12 +1,9 @@
--- Invariant: pasting the k digits that are left into the buffer as it is gives what is to be written.
-use Prim.Native.Nat.{◌≤◌}
+-- Invariant: the digits that are left, before the bytes that are written, are the value's.
 use mathlib.Core.Path.{◌≡◌}
-use lib.ListN.{length}
-use Rattle.digits.specs.Digits.{digits, pasted}
+use mathlib.Core.List.{◌++◌}
+use lib.ListN.{length, drop}
+use Rattle.digits.specs.Digits.{digits}
 use Rattle.digits.proofs.put.Given as goal
 
 abbrev pub invariant-loop-k : goal.invariant-loop-k
-invariant-loop-k l = (l.k ≤ l.width) × (length l.out ≡ length l.initial.out) × (pasted l.out l.at l.k (digits l.k l.v) ≡ pasted l.initial.out l.at l.width (digits l.width l.value))
-
-abbrev pub decreases-loop-k : goal.decreases-loop-k
-decreases-loop-k l = l.k
+invariant-loop-k l = digits l.k l.v ++ drop l.k l.out ≡ digits (length l.initial.out) l.value

@@ -1,22 +1,27 @@
 -- The tests in the order of `line_of`; eight digits by their sum.
-use borrow.Author.Tests.{lt-ltb, le-ltb, ne_eqb, eq-eqb}
-use Rattle.digits.specs.Digits.{line_of}
+use Prim.Native.Nat.{ℕ, ◌+◌, ◌-◌, ◌<◌}
+use mathlib.Core.Path.{◌≡◌, ◌∙◌}
+use native.Mathlib.Omega.{arith}
+use Rattle.std.proofs.Common.{rules, tests}
+use Rattle.std.specs.Prelude.{Result, Ok, Err}
+use Rattle.std.specs.Result.{OkIff, result_ok}
+use borrow.Author.Tests.{lt-ltb, le-ltb}
+use Rattle.digits.specs.Digits.{line_word, line_of, digits_of_sum}
 use Rattle.digits.proofs.read_line.Goals as goal
+
+-- a sum that 32 bits hold is the word
+word_held : {E : Type 0} (v : ℕ) (r : Result ℕ E) → OkIff r (v < 4294967296) v → result_ok r ≡ line_word (digits_of_sum v)
+word_held v (Ok w) h = rw (le-ltb 4294967295 v (omega (arith, h.0)), h.1)
+word_held v (Err e) h = rw (lt-ltb 4294967295 v (omega (arith, h)))
 
 pub returns-then-s-at-lt9 : goal.returns-then-s-at-lt9
 unfolding line_of
-returns-then-s-at-lt9 c = simp (lt-ltb _ _ c.if-s-at-lt9.true)
-
-pub returns-then-s-at-ne10 : goal.returns-then-s-at-ne10
-unfolding line_of
-returns-then-s-at-ne10 c = simp (ne_eqb _ _ c.if-s-at-ne10.true, le-ltb _ _ c.if-s-at-lt9.false)
-
-pub returns-then-v-gt4294967295 : goal.returns-then-v-gt4294967295
-unfolding line_of
-returns-then-v-gt4294967295 c =
-    simp (eq-eqb _ _ c.if-s-at-ne10.false, le-ltb _ _ c.if-s-at-lt9.false, c.eight_digits-v.ensures, lt-ltb _ _ c.if-v-gt4294967295.true)
+returns-then-s-at-lt9 c = search (rules, tests)
 
 pub returns : goal.returns
 unfolding line_of
 returns c =
-    simp (eq-eqb _ _ c.if-s-at-ne10.false, le-ltb _ _ c.if-s-at-lt9.false, c.eight_digits-v.ensures, le-ltb _ _ c.if-v-gt4294967295.false)
+    let n : c.args.at + 8 - c.args.at ≡ 8 = omega arith in
+    let v = rw n at c.eight_digits.ensures in
+    let w = word_held _ _ c.try_from.ensures in
+    c.ok.ensures.value ∙ w ∙ search (rules, tests)

@@ -4,4 +4,4 @@ use Rattle.digits.proofs.word_line.Goals as goal
 
 pub returns : goal.returns
 unfolding word_line
-returns c = c.put.ensures
+returns c = rw (c.put.ensures, c.from.ensures)

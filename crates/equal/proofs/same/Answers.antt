@@ -1,61 +1,65 @@
+use Rattle.std.proofs.Common.{rules}
 use mathlib.Core.Path.{sym, ◌∙◌}
 use native.Mathlib.Omega.{arith}
 use borrow.Author.Tests.{ltb-true, ltb-false}
-use Rattle.frame.proofs.Laws.{decoded_in_range}
-use Rattle.soundness.proofs.Laws.{sound_fits, sound_not_bad}
+use Rattle.frame.proofs.Laws.{at_ok, at_err, decoded_in_range}
+use Rattle.soundness.proofs.Laws.{sound_not_bad}
 use Rattle.exchange.proofs.Exchange.{exchanges_length}
 use Rattle.exchange.proofs.Frames.{apart}
 use Rattle.equal.proofs.Exchanges.{no}
+use Rattle.equal.proofs.Sides.{was_ok, was_err}
 use Rattle.equal.proofs.Walk.{walk_start, walk_end, missing, words_differ, too_early, go_on}
+use Rattle.equal.specs.declared.Side.TheVariants.{Left}
 use Rattle.equal.proofs.same.Goals as goal
 
 pub returns-then-left-right : goal.returns-then-left-right
-returns-then-left-right c = no _ _ (λ x. c.if-left-right.true (exchanges_length apart x))
+returns-then-left-right c = rw (no _ _ (λ x. c.if-left-right.true (exchanges_length apart x)))
 
 pub loop-i-init : goal.loop-i-init
-loop-i-init c = walk_start _ _ c.if-left-right.false
+loop-i-init c = rw c.new-lasts.ensures (walk_start _ _ c.if-left-right.false)
 
-pub overflow_cast-result : goal.overflow_cast-result
-overflow_cast-result c = omega (arith, c.loop-i-test.true, sound_fits c.args.left.now c.requires.fact_1)
+pub returns-in_err-frame : goal.returns-in_err-frame
+returns-in_err-frame c =
+    let m = was_err _ Left c.at.result c.map_err.ensures.cases (λ e d p. search rules) c.in_err-frame.was in
+    let b = at_err c.args.left.now c.loop-i.i (sym c.at.ensures ∙ m.1) in
+    sound_not_bad c.args.left.now c.requires.left_sound c.loop-i.i c.loop-i-test.true b.1
+
+pub bounds-next-t : goal.bounds-next-t
+bounds-next-t c =
+    let f = at_ok c.args.left.now c.loop-i.i (sym c.at.ensures ∙ was_ok _ c.at.result c.map_err.ensures.cases c.in_ok-frame.was) in
+    rw c.from-t.ensures (decoded_in_range _ _ f).thread
 
 pub returns-in_default : goal.returns-in_default
 returns-in_default c =
-    sound_not_bad c.args.left.now c.requires.fact_1 c.loop-i.i c.loop-i-test.true (sym c.decode-d.ensures ∙ c.in_default.is)
+    let f = at_ok c.args.left.now c.loop-i.i (sym c.at.ensures ∙ was_ok _ c.at.result c.map_err.ensures.cases c.in_ok-frame.was) in
+    rw (missing c.loop-i.invariant c.loop-i-test.true f (rw c.from-t.ensures at c.in_default.ensures) (omega arith))
 
-pub bounds-next-t : goal.bounds-next-t
-bounds-next-t c = (decoded_in_range _ _ (sym c.decode-d.ensures ∙ c.in-Ok.is)).thread
+pub returns-then-right-place : goal.returns-then-right-place
+returns-then-right-place c =
+    let f = at_ok c.args.left.now c.loop-i.i (sym c.at.ensures ∙ was_ok _ c.at.result c.map_err.ensures.cases c.in_ok-frame.was) in
+    rw (words_differ c.loop-i.invariant c.loop-i-test.true f (rw c.from-t.ensures at c.in-Some.ensures.1) c.if-right-place.true)
 
-pub find-p-requires : goal.find-p-requires
-find-p-requires c =
-    record {
-      fact_1 = c.requires.fact_2;
-      fact_2 = c.loop-i.invariant.starts _;
-    }
+pub note-requires : goal.note-requires
+note-requires c =
+    let f = at_ok c.args.left.now c.loop-i.i (sym c.at.ensures ∙ was_ok _ c.at.result c.map_err.ensures.cases c.in_ok-frame.was) in
+    (decoded_in_range _ _ f).object
 
-pub returns-then-p-right : goal.returns-then-p-right
-returns-then-p-right c =
-    missing c.loop-i.invariant c.loop-i-test.true (sym c.decode-d.ensures ∙ c.in-Ok.is) c.find-p.ensures c.if-p-right.true
-
-pub returns-then-right-p : goal.returns-then-right-p
-returns-then-right-p c =
-    words_differ c.loop-i.invariant c.loop-i-test.true (sym c.decode-d.ensures ∙ c.in-Ok.is) c.find-p.ensures c.if-right-p.true
-
-pub overflow_cast-q : goal.overflow_cast-q
-overflow_cast-q c = omega (arith, c.find-p.ensures.within, sound_fits c.args.right.now c.requires.fact_2)
-
-pub note_last-requires : goal.note_last-requires
-note_last-requires c = (decoded_in_range _ _ (sym c.decode-d.ensures ∙ c.in-Ok.is)).object
-
-pub returns-then-not-note_last : goal.returns-then-not-note_last
-returns-then-not-note_last c =
-    too_early c.loop-i.invariant c.loop-i-test.true (sym c.decode-d.ensures ∙ c.in-Ok.is) c.find-p.ensures (ltb-false _ _ (sym c.note_last.ensures.below ∙ c.if-not-note_last.true))
+pub returns-then-not-note : goal.returns-then-not-note
+returns-then-not-note c =
+    let f = at_ok c.args.left.now c.loop-i.i (sym c.at.ensures ∙ was_ok _ c.at.result c.map_err.ensures.cases c.in_ok-frame.was) in
+    rw (too_early c.loop-i.invariant c.loop-i-test.true f (rw c.from-t.ensures at c.in-Some.ensures.1) (ltb-false _ _ (sym c.note.ensures.below ∙ c.if-not-note.true)))
 
 pub bounds-next-t-in-loop-i : goal.bounds-next-t-in-loop-i
-bounds-next-t-in-loop-i c = (decoded_in_range _ _ (sym c.decode-d.ensures ∙ c.in-Ok.is)).thread
+bounds-next-t-in-loop-i c =
+    let f = at_ok c.args.left.now c.loop-i.i (sym c.at.ensures ∙ was_ok _ c.at.result c.map_err.ensures.cases c.in_ok-frame.was) in
+    rw c.from-t.ensures (decoded_in_range _ _ f).thread
 
 pub loop-i-preserved : goal.loop-i-preserved
 loop-i-preserved c =
-    go_on c.loop-i.invariant c.loop-i-test.true (sym c.decode-d.ensures ∙ c.in-Ok.is) c.find-p.ensures c.if-p-right.false c.if-right-p.false (ltb-true _ _ (sym c.note_last.ensures.below ∙ c.if-not-note_last.false)) c.note_last.ensures.noted
+    let f = at_ok c.args.left.now c.loop-i.i (sym c.at.ensures ∙ was_ok _ c.at.result c.map_err.ensures.cases c.in_ok-frame.was) in
+    rw c.from-t.ensures
+    (go_on c.loop-i.invariant c.loop-i-test.true f (rw c.from-t.ensures at c.in-Some.ensures.1) c.in-Some.ensures.0 c.if-right-place.false
+    (ltb-true _ _ (sym c.note.ensures.below ∙ c.if-not-note.false)) c.note.ensures.noted)
 
 pub returns : goal.returns
-returns c = walk_end c.requires.fact_1 c.loop-i.invariant c.loop-i-test.false
+returns c = rw (walk_end c.requires.left_sound c.loop-i.invariant c.loop-i-test.false)

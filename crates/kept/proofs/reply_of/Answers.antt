@@ -1,26 +1,24 @@
 -- One case for each range of kinds.
-use borrow.Author.Tests.{eq-eqb, ne_eqb, lt-ltb, le-ltb}
+use Rattle.std.proofs.Common.{rules, tests}
 use Rattle.kept.specs.Kept.{kept_by}
 use Rattle.kept.proofs.reply_of.Goals as goal
 
-pub returns-then-k-eq0 : goal.returns-then-k-eq0
+pub returns-then-f-eq0 : goal.returns-then-f-eq0
 unfolding kept_by
-returns-then-k-eq0 c = rw (eq-eqb _ _ c.if-k-eq0.true)
+returns-then-f-eq0 c = search (rules, tests)
 
-pub returns-then-k-lt5 : goal.returns-then-k-lt5
+pub returns-in-Ok : goal.returns-in-Ok
 unfolding kept_by
-returns-then-k-lt5 c = rw (ne_eqb _ _ c.if-k-eq0.false, lt-ltb _ _ c.if-k-lt5.true, c.violation_of-v.ensures)
+returns-in-Ok c = search (rules, tests)
 
-pub returns-then-k-lt129 : goal.returns-then-k-lt129
+pub returns-in_err-number : goal.returns-in_err-number
 unfolding kept_by
-returns-then-k-lt129 c = rw (ne_eqb _ _ c.if-k-eq0.false, le-ltb _ _ c.if-k-lt5.false, lt-ltb _ _ c.if-k-lt129.true)
+returns-in_err-number c = search (rules, tests)
 
-pub returns-then-k-gt-LAST_KIND : goal.returns-then-k-gt-LAST_KIND
+pub returns-in_err-reason : goal.returns-in_err-reason
 unfolding kept_by
-returns-then-k-gt-LAST_KIND c =
-    rw (ne_eqb _ _ c.if-k-eq0.false, le-ltb _ _ c.if-k-lt5.false, le-ltb _ _ c.if-k-lt129.false, lt-ltb _ _ c.if-k-gt-LAST_KIND.true)
+returns-in_err-reason c = search (rules, tests)
 
 pub returns : goal.returns
 unfolding kept_by
-returns c =
-    rw (ne_eqb _ _ c.if-k-eq0.false, le-ltb _ _ c.if-k-lt5.false, le-ltb _ _ c.if-k-lt129.false, le-ltb _ _ c.if-k-gt-LAST_KIND.false, c.refusal_by-reason.ensures)
+returns c = search (rules, tests)

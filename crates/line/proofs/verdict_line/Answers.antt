@@ -6,4 +6,4 @@ use Rattle.line.proofs.verdict_line.Goals as goal
 
 pub returns : goal.returns
 returns c =
-    c.fields_line.ensures ∙ ap fields_line c.reply_fields-f.ensures ∙ held_line (reply_fields c.args.r c.args.frames)
+    c.fields_line.ensures ∙ ap fields_line c.reply_fields.ensures ∙ held_line (reply_fields c.args.r c.args.frames)

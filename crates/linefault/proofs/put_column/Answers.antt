@@ -1,23 +1,19 @@
 -- The column, and the byte there, or that the file ends before it.
 use borrow.Author.Tests.{le-leb, lt-leb}
 use Rattle.output.specs.Output.{bytes}
-use Rattle.output.proofs.Laws.{put_more}
+use Rattle.output.proofs.Laws.{appended_more}
 use Rattle.linefault.proofs.put_column.Goals as goal
 
-pub returns-then-line-c : goal.returns-then-line-c
+pub returns-in-Some : goal.returns-in-Some
 unfolding bytes
-returns-then-line-c c =
-    let x = put_more (record { place = c.put_text-p.ensures.place; contents = c.put_text-p.ensures.contents }) (put_more (record { place = c.put_decimal-q.ensures.place; contents = c.put_decimal-q.ensures.contents }) (record { place = c.put_text.ensures.place; contents = c.put_text.ensures.contents })) in
-    record {
-      place = rw (le-leb _ _ c.if-line-c.true) (x.place);
-      contents = rw (le-leb _ _ c.if-line-c.true) (x.contents);
-    }
+returns-in-Some c =
+    let byte = c.in-Some.ensures.lookup.3 in
+    let digits = rw (byte.1 0) at c.put_hexadecimal.ensures in
+    rw (lt-leb _ _ byte.0)
+    (appended_more c.put_text.ensures (appended_more c.put_decimal.ensures (appended_more c.put_text-in-Some.ensures (appended_more digits c.put_text-in-Some-2.ensures))))
 
-pub returns : goal.returns
+pub returns-in-None : goal.returns-in-None
 unfolding bytes
-returns c =
-    let x = put_more (record { place = c.put_text-p.ensures.place; contents = c.put_text-p.ensures.contents }) (put_more (record { place = c.put_decimal-q.ensures.place; contents = c.put_decimal-q.ensures.contents }) (put_more (record { place = c.put_text-r.ensures.place; contents = c.put_text-r.ensures.contents }) (put_more (record { place = c.put_hexadecimal-s.ensures.place; contents = c.put_hexadecimal-s.ensures.contents }) (record { place = c.put_text-2.ensures.place; contents = c.put_text-2.ensures.contents })))) in
-    record {
-      place = rw (lt-leb _ _ c.if-line-c.false) (x.place);
-      contents = rw (lt-leb _ _ c.if-line-c.false) (x.contents);
-    }
+returns-in-None c =
+    rw (le-leb _ _ c.in-None.ensures.lookup.3)
+    (appended_more c.put_text.ensures (appended_more c.put_decimal.ensures c.put_text-in-None.ensures))

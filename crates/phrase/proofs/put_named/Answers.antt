@@ -1,11 +1,6 @@
--- The number is written behind the text.
-use Rattle.output.proofs.Laws.{put_more}
+-- The number is written behind the words.
+use Rattle.output.proofs.Laws.{appended_more}
 use Rattle.phrase.proofs.put_named.Goals as goal
 
 pub returns : goal.returns
-returns c =
-    let x = put_more (record { place = c.put_text-p.ensures.place; contents = c.put_text-p.ensures.contents }) (record { place = c.put_decimal.ensures.place; contents = c.put_decimal.ensures.contents }) in
-    record {
-      place = x.place;
-      contents = x.contents;
-    }
+returns c = appended_more c.put_text.ensures c.put_decimal.ensures

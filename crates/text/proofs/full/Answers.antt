@@ -1,10 +1,11 @@
-use mathlib.Core.Path.{sym}
-use Rattle.frame.specs.Limits.{most_frames}
-use Rattle.text.proofs.Laws.{scan_done, scan_over}
+use Rattle.std.proofs.Common.{rules, tests}
+use Rattle.text.specs.Text.{scan_from}
 use Rattle.text.proofs.full.Goals as goal
 
 pub returns-then-s-le-MOST_BYTES : goal.returns-then-s-le-MOST_BYTES
-returns-then-s-le-MOST_BYTES c = sym (scan_done c.args.s.now most_frames 0 c.if-s-le-MOST_BYTES.true)
+unfolding scan_from
+returns-then-s-le-MOST_BYTES c = search (rules, tests)
 
-pub returns : goal.returns
-returns c = sym (scan_over c.args.s.now most_frames c.if-s-le-MOST_BYTES.false)
+pub returns-else-s-le-MOST_BYTES : goal.returns-else-s-le-MOST_BYTES
+unfolding scan_from
+returns-else-s-le-MOST_BYTES c = search (rules, tests)

@@ -1,27 +1,25 @@
-use mathlib.Core.Path.{refl}
+-- Where the first LF is, or that there is none.
+use mathlib.Core.Path.{◌∙◌}
 use native.Mathlib.Omega.{arith}
-use Rattle.textlines.proofs.Lines.{ends, goes_on, no_line}
+use lib.ListN.{drop, length-drop}
+use lib.Seq.{take_all}
+use lib.Dec.{eqb}
+use Rattle.std.proofs.Common.{rules, tests}
+use Rattle.std.proofs.lemmas.Iterator.{YieldsList-from_slice}
+use Rattle.std.proofs.lemmas.Iterator.Search.{position_from_yields_List}
+use Rattle.textlines.proofs.Lines.{line_ends}
 use Rattle.textlines.proofs.line_end.Goals as goal
 
-pub loop-e-init : goal.loop-e-init
-loop-e-init c = (c.requires, refl)
+pub returns-in-Some : goal.returns-in-Some
+returns-in-Some c =
+    let t = drop c.args.start c.args.text.now in
+    let p = position_from_yields_List (λ b. eqb b 10) _ _ _ c.position.ensures.ran (YieldsList-from_slice t (c.iter.ensures.rest ∙ take_all _ t (omega (arith, length-drop c.args.start c.args.text.now)))) (λ x r q k. search (rules, tests)) in
+    let h = rw c.in-Some.is at (line_ends t _ p) in
+    omega (arith, h)
 
-pub returns-then-c-eq10 : goal.returns-then-c-eq10
-returns-then-c-eq10 c =
-    let l = c.loop-e in
-    let t = c.args.text.now in
-    let e = ends t l.e (omega arith) c.if-c-eq10.true in
-    rw e at l.invariant.1
-
-pub loop-e-preserved : goal.loop-e-preserved
-loop-e-preserved c =
-    let l = c.loop-e in
-    let t = c.args.text.now in
-    let e = goes_on t l.e (omega arith) c.if-c-eq10.false in
-    (omega arith, omega (arith, e, l.invariant.1))
-
-pub returns : goal.returns
-returns c =
-    let l = c.loop-e in
-    let e = no_line c.args.text.now l.e (omega arith) in
-    omega (arith, e, l.invariant.1)
+pub returns-in-None : goal.returns-in-None
+returns-in-None c =
+    let t = drop c.args.start c.args.text.now in
+    let p = position_from_yields_List (λ b. eqb b 10) _ _ _ c.position.ensures.ran (YieldsList-from_slice t (c.iter.ensures.rest ∙ take_all _ t (omega (arith, length-drop c.args.start c.args.text.now)))) (λ x r q k. search (rules, tests)) in
+    let h = rw c.in-None.is at (line_ends t _ p) in
+    omega (arith, h, length-drop c.args.start c.args.text.now)

@@ -16,7 +16,7 @@ returns-then-line-lt-LINE c =
 
 pub returns : goal.returns
 returns c =
-    let d = c.judge-r in
+    let d = c.judge-declared in
     let p = c.args in
     let t = le-ltb _ _ c.if-line-lt-LINE.false in
     let n = length p.words.now in

@@ -17,7 +17,7 @@ returns-then-room-lt-LINE c =
 
 pub returns : goal.returns
 returns c =
-    let d = c.inferred-judged in
+    let d = c.inferred-inferred in
     let p = c.args in
     let t = le-ltb _ _ c.if-room-lt-LINE.false in
     let n = length p.words.now in

@@ -1,19 +1,23 @@
-use mathlib.Core.Path.{sym, ◌∙◌}
+use Rattle.std.specs.Prelude.{Err}
+use Rattle.std.proofs.Common.{rules}
+use mathlib.Core.Path.{◌≡◌, sym, ◌∙◌}
 use lib.ListN.{length}
+use Rattle.std.proofs.lemmas.List.{length-take-le}
+use Rattle.frame.specs.Limits.{variable_count}
 use Rattle.guards.specs.Guards.{inferred_guards}
-use Rattle.pass.proofs.Judgement.{judgement_length, judged_left}
+use Rattle.pass.proofs.Judgement.{judged_left}
 use Rattle.pass.specs.Pass.{full_sets}
 use Rattle.verdict.proofs.Laws.{refused_reply, refused_sets, short_reply, short_sets, judged_reply, judged_sets}
 use Rattle.verdict.proofs.inferred.Goals as goal
 
-pub returns-in_default : goal.returns-in_default
+pub returns-in_err-verdict : goal.returns-in_err-verdict
 unfolding inferred_guards full_sets
-returns-in_default c =
+returns-in_err-verdict c =
     let a = c.args in
-    let told = c.in_default.is in
-    let e = sym c.judge_recording-p.ensures.reply ∙ told in
+    let q : c.from_residual.result ≡ Err c.in_err-verdict.field-0.0 = search rules in
+    let e = sym c.judge_recording.ensures.reply ∙ c.in_err-verdict.was in
     record {
-      reply = told ∙ sym (refused_reply a.words.now a.sets.now _ e (length a.sets.now));
+      reply = q ∙ sym (refused_reply a.words.now a.sets.now _ e (length a.sets.now));
       contents = sym (refused_sets a.words.now a.sets.now _ e);
     }
 
@@ -21,31 +25,24 @@ pub returns-then-sets-lt-VARIABLES : goal.returns-then-sets-lt-VARIABLES
 unfolding inferred_guards full_sets
 returns-then-sets-lt-VARIABLES c =
     let a = c.args in
-    let e = sym c.judge_recording-p.ensures.reply ∙ c.in-Ok.is in
+    let e = sym c.judge_recording.ensures.reply ∙ c.in_ok-verdict.was in
     record {
-      reply = sym (short_reply a.words.now a.sets.now _ e c.if-sets-lt-VARIABLES.true);
+      reply = rw c.at.ensures (sym (short_reply a.words.now a.sets.now _ e c.if-sets-lt-VARIABLES.true));
       contents = sym (short_sets a.words.now a.sets.now _ e c.if-sets-lt-VARIABLES.true);
     }
 
-pub copy_sets-requires : goal.copy_sets-requires
-unfolding inferred_guards full_sets
-copy_sets-requires c =
-    let ws = c.args.words.now in
-    let j = c.judge_recording-p in
-    let s = j.ensures.contents ∙ judged_left inferred_guards full_sets ws _ (sym j.ensures.reply ∙ c.in-Ok.is) in
-    record {
-      fact_1 = rw s (judgement_length inferred_guards full_sets ws);
-      fact_2 = c.if-sets-lt-VARIABLES.false;
-    }
+pub copy_from_slice-requires : goal.copy_from_slice-requires
+copy_from_slice-requires c =
+    length-take-le variable_count c.args.sets.now c.if-sets-lt-VARIABLES.false ∙ sym c.judge_recording.array_long
 
 pub returns : goal.returns
 unfolding inferred_guards full_sets
 returns c =
     let a = c.args in
-    let j = c.judge_recording-p in
-    let e = sym j.ensures.reply ∙ c.in-Ok.is in
+    let j = c.judge_recording in
+    let e = sym j.ensures.reply ∙ c.in_ok-verdict.was in
     let s = j.ensures.contents ∙ judged_left inferred_guards full_sets a.words.now _ e in
     record {
       reply = sym (judged_reply a.words.now a.sets.now _ e c.if-sets-lt-VARIABLES.false);
-      contents = c.copy_sets.ensures ∙ rw s (sym (judged_sets a.words.now a.sets.now _ e c.if-sets-lt-VARIABLES.false));
+      contents = rw (c.copy_from_slice.ensures.after, s) (sym (judged_sets a.words.now a.sets.now _ e c.if-sets-lt-VARIABLES.false));
     }

@@ -1,11 +1,11 @@
 -- Five sentences, one behind the other.
-use Rattle.output.proofs.Laws.{put_more}
+use Rattle.output.proofs.Laws.{appended_more}
 use Rattle.violationtext.proofs.say_violation.Goals as goal
 
 pub returns : goal.returns
 returns c =
-    let x = put_more (record { place = c.say_kind-p.ensures.place; contents = c.say_kind-p.ensures.contents }) (put_more (record { place = c.say_block-q.ensures.place; contents = c.say_block-q.ensures.contents }) (put_more (record { place = c.say_frame-r.ensures.place; contents = c.say_frame-r.ensures.contents }) (put_more (record { place = c.say_why-s.ensures.place; contents = c.say_why-s.ensures.contents }) (record { place = c.say_remedy.ensures.place; contents = c.say_remedy.ensures.contents })))) in
-    record {
-      place = rw (← c.known-k.ensures) (x.place);
-      contents = rw (← c.known-k.ensures) (x.contents);
-    }
+    let k = c.known-known.ensures in
+    appended_more (rw c.kind_sentence.ensures at c.say.ensures)
+    (appended_more (rw (c.block_sentence.ensures, k) at c.say-2.ensures)
+    (appended_more (rw (c.frame_sentence.ensures, k) at c.say-3.ensures)
+    (appended_more (rw (c.why_sentence.ensures, k) at c.say-4.ensures) (rw c.remedy_sentence.ensures at c.say-5.ensures))))

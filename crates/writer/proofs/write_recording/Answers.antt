@@ -1,36 +1,31 @@
 -- The check, the room, and then the lines: each refusal leaves the text as it was.
-use mathlib.Core.Path.{sym, ◌∙◌}
-use Rattle.soundness.proofs.Laws.{sound_fits}
-use Rattle.writer.proofs.Reply.{refused_after, room_for, written_after, check_refused}
+use Rattle.std.proofs.Common.{rules, tests}
+use Rattle.writer.specs.Writer.{write_reply}
+use Rattle.writer.proofs.Lines.{in_place}
 use Rattle.writer.proofs.write_recording.Goals as goal
 
-pub room-r-requires : goal.room-r-requires
-room-r-requires c = sound_fits c.args.words.now (sym c.check-q.ensures ∙ c.in-Ok.is)
+pub returns-in_err-check-clause-reply : goal.returns-in_err-check-clause-reply
+unfolding write_reply
+returns-in_err-check-clause-reply c = search (rules, tests)
 
-pub returns-in_default : goal.returns-in_default
-returns-in_default c =
-    let both = refused_after c.args.words.now c.args.text.now c.args.place (sym c.check-q.ensures ∙ c.in-Ok.is) c.room-r.ensures c.in_default.is in
-    record {
-      reply = both.0;
-      contents = both.1;
-    }
+pub returns-in_err-check-clause-contents : goal.returns-in_err-check-clause-contents
+unfolding write_reply
+returns-in_err-check-clause-contents c = search (rules, tests)
 
-pub write_lines-requires : goal.write_lines-requires
-write_lines-requires c =
-    room_for c.args.words.now c.args.text.now c.args.place (sym c.check-q.ensures ∙ c.in-Ok.is) c.room-r.ensures c.in-Ok.is
+pub returns-in_err-bytes-clause-reply : goal.returns-in_err-bytes-clause-reply
+unfolding write_reply
+returns-in_err-bytes-clause-reply c = search (rules, tests)
 
-pub returns-in-Err : goal.returns-in-Err
-returns-in-Err c =
-    let both = check_refused c.args.words.now c.args.text.now c.args.place c.in-Err.x (sym c.check-q.ensures ∙ c.in-Err.is) in
-    record {
-      reply = both.0;
-      contents = both.1;
-    }
+pub returns-in_err-bytes-clause-contents : goal.returns-in_err-bytes-clause-contents
+unfolding write_reply
+returns-in_err-bytes-clause-contents c = search (rules, tests)
 
-pub returns-in-Ok : goal.returns-in-Ok
-returns-in-Ok c =
-    let both = written_after c.args.words.now c.args.text.now c.args.place (sym c.check-q.ensures ∙ c.in-Ok.is) c.room-r.ensures c.in-Ok.is c.write_lines.ensures in
-    record {
-      reply = both.0;
-      contents = both.1;
-    }
+pub returns-clause-reply : goal.returns-clause-reply
+unfolding write_reply
+returns-clause-reply c = search (rules, tests)
+
+pub returns-clause-contents : goal.returns-clause-contents
+unfolding write_reply
+returns-clause-contents c =
+    let e = in_place c.args.words.now c.args.text.now c.args.place c.write_lines.ensures in
+    search (rules, tests, e)

@@ -1,2 +1,0 @@
--- Sentences: the sentences as lines of one text.
-pub mod Sentences

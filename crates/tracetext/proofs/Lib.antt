@@ -1,2 +1,0 @@
--- Laws of the functions for C programs.
-pub mod Laws

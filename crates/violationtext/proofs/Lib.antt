@@ -1,2 +1,0 @@
--- Sentences: the sentences as lines of three texts.
-pub mod Sentences
