@@ -1,2 +1,2 @@
--- Turns: the loop of `walk`.
+-- Turns: the loop of `write_commits`.
 mod Turns

@@ -1,2 +1,2 @@
--- Units: a unit frame by frame, and the unit writer's loop.
+-- Units: a unit frame by frame.
 pub mod Units

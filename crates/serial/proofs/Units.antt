@@ -1,17 +1,16 @@
--- The loop of the unit writer: what a word shows of its frame, the invariant, and the laws of a turn.
+-- A unit frame by frame: what a word shows of its frame, and the laws of a turn over a unit.
 use Rattle.std.specs.Prelude.{Ok}
 use Prim.Native.Nat.{ℕ, ◌+◌, ◌/◌, ◌%◌, ◌<◌, ◌≤◌}
-use mathlib.Core.Path.{◌≡◌, refl, ◌∙◌, ap, subst}
+use mathlib.Core.Path.{◌≡◌, refl, ap}
 use mathlib.Core.Bool.{cond}
 use mathlib.Core.List.{List, [], ◌∷◌}
 use native.Mathlib.Omega.{arith}
 use native.Mathlib.Numerals.{add-one}
 use borrow.Author.Tests.{eq-eqb, ne_eqb}
 use lib.Dec.{eqb}
-use lib.ListN.{length, get_or, drop, set, drop_of_length-le}
+use lib.ListN.{length, get_or, drop, drop_of_length-le}
 use lib.Seq.{drop-cons}
 use Rattle.laws.proofs.Logic.{either}
-use Rattle.laws.proofs.Written.{Written, written_none, written_one, room}
 use Rattle.frame.specs.Frame.{action_of, decode_word}
 use Rattle.frame.specs.declared.Thread.{Thread}
 use Rattle.frame.proofs.Laws.{shown, Operation, acquire, release, read, write, begin, end, operation}
@@ -59,39 +58,3 @@ module _ {A : Type 0} (ws : List ℕ) (xs : List A) {x : A} (i : ℕ) (s : check
 pub unit_over : {A : Type 0} (ws : List ℕ) (xs : List A) (t : Thread) (d i : ℕ) → length ws ≤ i → unit_from t d (drop i ws) (drop i xs) ≡ []
 unfolding unit_from
 unit_over ws xs t d i h = rw (drop_of_length-le ws h)
-
--- the words themselves as elements
-words_on : (ws : List ℕ) (i : ℕ) → i < length ws → drop i ws ≡ get_or ws i 0 ∷ drop (i + 1) ws
-words_on ws i h = rw (drop-cons ws i 0 h, add-one i)
-
--- the loop of the unit writer
-pub record UnitInv (ws : List ℕ) (b : ℕ) (t : Thread) (out₀ out : List ℕ) (n d i : ℕ) : Type 0 where
-  pub low : d ≤ i
-  pub written : Written out₀ out n (unit_of ws ws b t) (unit_from t d (drop i ws) (drop i ws))
-
-pub unit_begins : (ws out : List ℕ) (b : ℕ) (t : Thread) → UnitInv ws b t out out 0 0 b
-unfolding unit_of
-unit_begins ws out b t = record { low = omega arith; written = written_none out (unit_from t 0 (drop b ws) (drop b ws)) }
-
-module _ {ws : List ℕ} {b : ℕ} {t : Thread} {out₀ out : List ℕ} {n d i : ℕ} (inv : UnitInv ws b t out₀ out n d i) where
-  -- what is left of the unit
-  left_is : {l : List ℕ} → unit_from t d (drop i ws) (drop i ws) ≡ l → Written out₀ out n (unit_of ws ws b t) l
-  left_is e = subst (λ (l : List ℕ). Written out₀ out n (unit_of ws ws b t) l) e inv.written
-
-  pub unit_ends : length ws ≤ i → Written out₀ out n (unit_of ws ws b t) []
-  unit_ends h = left_is (unit_over ws ws t d i h)
-
-  module _ (s : check_reply ws ≡ (Ok tt)) (h : i < length ws) where
-    pub passes_over : (get_or ws i 0 / 65536 % 256 ≡ t.0 → ⊥) → UnitInv ws b t out₀ out n d (i + 1)
-    passes_over e = record { low = omega (arith, inv.low); written = left_is (other_turn ws ws i s h (words_on ws i h) t d e) }
-
-    module _ (e : get_or ws i 0 / 65536 % 256 ≡ t.0) (r : length (unit_of ws ws b t) ≤ length out₀) where
-      pub has_room : n < length out
-      has_room = omega (arith, room inv.written r, ap length (own_turn ws ws i s h (words_on ws i h) t d e))
-
-      module _ {d' : ℕ} (q : d' ≡ depth_by (get_or ws i 0 / 16777216) d) where
-        pub copies : (d' ≡ 0 → ⊥) → UnitInv ws b t out₀ (set out n (get_or ws i 0)) (n + 1) d' (i + 1)
-        copies z = record { low = omega (arith, inv.low, by_low (get_or ws i 0 / 16777216) d); written = written_one (left_is (own_turn ws ws i s h (words_on ws i h) t d e ∙ rw (← q, ne_eqb d' 0 z))) has_room }
-
-        pub copies_last : d' ≡ 0 → Written out₀ (set out n (get_or ws i 0)) (n + 1) (unit_of ws ws b t) []
-        copies_last z = written_one (left_is (own_turn ws ws i s h (words_on ws i h) t d e ∙ rw (← q, eq-eqb d' 0 z))) has_room

@@ -6,7 +6,8 @@ use Rattle.frame.specs.Frame.{decode_word}
 use Rattle.frame.specs.declared.Thread.{Thread}
 use Rattle.frame.specs.declared.Frame.{Frame}
 use Rattle.soundness.specs.Soundness.{nest}
-use Rattle.commit.specs.Commit.{Tables, start_tables, visited, unit_start}
+use Rattle.commit.specs.Commit.{start_units, visited, unit_start}
+use Rattle.commit.specs.declared.Units.{Units}
 use Rattle.frame.specs.declared.Refusal.{Refusal}
 
 -- A frame seen by a thread: its own, with the depth after it, or another's.
@@ -46,14 +47,14 @@ abbrev pub on_frame : {A : Type 0} → Result Frame Refusal → (Frame → List 
 on_frame (Ok f) rest = rest f
 on_frame (Err r) rest = []
 
--- The units that commit from place i on, with the tables as they are there.
-unfoldable pub walk_from : {A : Type 0} → List ℕ → List ℕ → List A → ℕ → Tables → List ℕ → List A
+-- The units that commit from place i on, with the units as they are there.
+unfoldable pub walk_from : {A : Type 0} → List ℕ → List ℕ → List A → ℕ → Units → List ℕ → List A
 walk_from guards all xs i x [] = []
 walk_from guards all xs i x (w ∷ ws) =
     on_frame (decode_word w) λ f. unit_in (unit_start guards i f x) all xs f.thread ++ walk_from guards all xs (i + 1) (visited guards i f x) ws
 
 abbrev pub walk_of : {A : Type 0} → List ℕ → List ℕ → List A → List A
-walk_of guards ws xs = walk_from guards ws xs 0 start_tables ws
+walk_of guards ws xs = walk_from guards ws xs 0 start_units ws
 
 abbrev pub walk_words : List ℕ → List ℕ → List ℕ
 walk_words guards ws = walk_of guards ws ws

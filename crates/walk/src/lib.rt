@@ -1,90 +1,108 @@
-// The serial order of a recording, unit by unit: walks that write each unit where it commits, its words or its displacements.
+// The serial order of a recording, unit by unit: a walk that writes each unit where it commits, its words or its displacements.
 
 #![tactic(auto)]
 
-ghost use Rattle.std.specs.Prelude.{◌≡◌, ◌++◌, ◌≤◌, length, drop};
-ghost use Rattle.soundness.specs.Soundness.{check_reply};
+ghost use Rattle.std.specs.Prelude.{◌≡◌, ◌+◌, ◌^◌, ◌<◌, ◌≤◌, ℕ, List, length};
+ghost use Rattle.std.proofs.Common.{rules};
 ghost use Rattle.frame.specs.Limits.{most_frames};
-ghost use Rattle.serial.specs.Walk.{walk_of, walk_words};
-ghost use Rattle.displacement.specs.Displacement.{places, moved};
+ghost use Rattle.soundness.specs.Soundness.{check_reply};
+ghost use Rattle.serial.specs.Walk.{unit_of, walk_of};
+ghost use Rattle.displacement.specs.Displacement.{places};
+ghost use Rattle.walk.specs.Laid.{put_word, put_move, laid};
 
-use frame::{Frame, LOCKS, Refused, THREADS, VARIABLES};
+use commit::Units;
+use displacement::displacement;
+use frame::{Frame, Refused, Thread, VARIABLES};
 
-// The units of a sound recording, each written where the one before stopped.
-pub fn write_order(words: &[u32], guards: &[u8; VARIABLES], out: &mut [u32]) -> Result<(), Refused>
-    requires fact_1 { check_reply words.now ≡ (Ok tt) }
-    requires fact_2 { length (walk_words guards.now words.now) ≤ length out.old }
-    ensures reply { result ≡ (Ok tt) }
-    ensures contents { out.new ≡ walk_words guards.now words.now ++ drop (length (walk_words guards.now words.now)) out.old }
-{
-    let mut counts = [0u32; LOCKS];
-    let mut depths = [0u32; THREADS];
-    let mut starts = [0u32; THREADS];
-    let mut committed = [0u8; THREADS];
-    let mut at: usize = 0;
-    let mut i: usize = 0;
-    while i < words.len() {
-        let d = Frame::try_from(words[i]);
-        let Ok(f) = d else {
-            return Err(Refused {
-                reason: frame::refusal_of(d),
-                place: i as u32,
-            });
-        };
-        let start = commit::visit(
-            guards,
-            &mut counts,
-            &mut depths,
-            &mut starts,
-            &mut committed,
-            i as u32,
-            f,
-        );
-        let thread = f.thread;
-        at = serial::write_at(words, start, thread, out, at);
-        i += 1;
-    }
-    Ok(())
+// What a table holds of each frame.
+pub trait Entry: Copy {
+    // Whether a table of a length has room for a frame that stands at a place of the order and is recorded at another.
+    ghost Fits: { ℕ → ℕ → ℕ → Type 0 };
+
+    ghost put: { ℕ → ℕ → ℕ → List Self → List Self };
+
+    // The frame at a place of the order, recorded at another, and its word.
+    fn put(table: &mut [Self], order: usize, place: usize, word: u32)
+        requires { Fits order place (length table.old) }
+        ensures { table.new ≡ put order place word table.old };
+
+    ghost behind_fits: { (o p l : ℕ) → l < 2 ^ 64 → Fits o p l → o + 1 < 2 ^ 64 };
 }
 
-// The displacements of a sound recording's frames, those of each unit where it commits.
-pub fn write_moves(
+// A word stands at its frame's place of the order.
+impl Entry for u32 {
+    ghost Fits = { λ o p l. o < l };
+
+    ghost put = { put_word };
+
+    ghost behind_fits = { λ o p l long fits. Prim.search rules };
+
+    fn put(table: &mut [u32], order: usize, _place: usize, word: u32) {
+        table[order] = word;
+    }
+}
+
+// A displacement stands at its frame's place of the recording.
+impl Entry for i32 {
+    ghost Fits = { λ o p l. (p < l) × (o < most_frames) × (p < most_frames) };
+
+    ghost put = { put_move };
+
+    ghost behind_fits = { λ o p l long fits. Prim.search rules };
+
+    fn put(table: &mut [i32], order: usize, place: usize, _word: u32) {
+        table[place] = displacement(order, place);
+    }
+}
+
+// The frames of the unit of a thread that starts at a place, put into a table, in the order from a place on; the place behind them there. Of the
+// words of other threads only the thread is looked at.
+fn write_unit<E: Entry>(
+    words: &[u32],
+    begin: usize,
+    thread: Thread,
+    table: &mut [E],
+    order: usize,
+) -> usize
+    requires sound { check_reply words.now ≡ (Ok tt) }
+    requires room { (o p : ℕ) → o < order + length (unit_of words.now (places words.now) begin thread) → p < length words.now → E.Fits o p (length table.old) }
+    ensures behind { result ≡ order + length (unit_of words.now (places words.now) begin thread) }
+    ensures contents { table.new ≡ laid E.put words.now order (unit_of words.now (places words.now) begin thread) table.old }
+{
+    let mut at = order;
+    let mut depth = 0;
+    for place in begin..words.len() {
+        let word = words[place];
+        if word / 0x10000 % 0x100 == u32::from(thread.0) {
+            E::put(table, at, place, word);
+            at += 1;
+            depth = serial::depth_by(word / 0x1000000, depth);
+            if depth == 0 {
+                return at;
+            }
+        }
+    }
+    at
+}
+
+// The units of a sound recording, each put into a table where the one before stopped.
+pub fn write<E: Entry>(
     words: &[u32],
     guards: &[u8; VARIABLES],
-    moves: &mut [i32],
+    table: &mut [E],
 ) -> Result<(), Refused>
-    requires fact_1 { check_reply words.now ≡ (Ok tt) }
-    requires fact_2 { length words.now ≤ length moves.old }
-    requires fact_3 { length (walk_of guards.now words.now (places words.now)) ≤ most_frames }
+    requires sound { check_reply words.now ≡ (Ok tt) }
+    requires room { (o p : ℕ) → o < length (walk_of guards.now words.now (places words.now)) → p < length words.now → E.Fits o p (length table.old) }
     ensures reply { result ≡ (Ok tt) }
-    ensures contents { moves.new ≡ moved 0 (walk_of guards.now words.now (places words.now)) moves.old }
+    ensures contents { table.new ≡ laid E.put words.now 0 (walk_of guards.now words.now (places words.now)) table.old }
 {
-    let mut counts = [0u32; LOCKS];
-    let mut depths = [0u32; THREADS];
-    let mut starts = [0u32; THREADS];
-    let mut committed = [0u8; THREADS];
-    let mut k: usize = 0;
-    let mut p: usize = 0;
-    while p < words.len() {
-        let d = Frame::try_from(words[p]);
-        let Ok(f) = d else {
-            return Err(Refused {
-                reason: frame::refusal_of(d),
-                place: p as u32,
-            });
-        };
-        let start = commit::visit(
-            guards,
-            &mut counts,
-            &mut depths,
-            &mut starts,
-            &mut committed,
-            p as u32,
-            f,
-        );
-        let thread = f.thread;
-        k = displacement::move_at(words, start, thread, moves, k);
-        p += 1;
+    let mut units = Units::new();
+    let mut order = 0;
+    for place in 0..words.len() {
+        let frame = Frame::at(words, place)?;
+        if let Some(begin) = units.visit(guards, place as u32, frame) {
+            order = write_unit(words, begin as usize, frame.thread, table, order);
+        }
     }
     Ok(())
 }
