@@ -22,7 +22,8 @@ use Rattle.soundness.specs.declared.State.{State}
 use Rattle.soundness.specs.declared.Level.{Level}
 use Rattle.instrumented.specs.Rules.{Judging}
 use Rattle.exchange.specs.Exchange.{frames_of}
-use Rattle.commit.specs.Commit.{Tables, start_tables, visited, unit_start}
+use Rattle.commit.specs.Commit.{start_units, visited, unit_start}
+use Rattle.commit.specs.declared.Units.{Units}
 use Rattle.pass.specs.Pass.{start_judging, full_sets}
 use Rattle.pass.proofs.Judgement.{judgement_fits, judgement_sound}
 use Rattle.serial.specs.Order.{commits, depth_after}
@@ -47,7 +48,7 @@ Left guards all p t left =
     (Starts all p → get_or left p 0 ≡ entry (length all) (get_or (commits guards all) p 0) (get_or t p 0))
     × ((Starts all p → ⊥) → get_or left p 0 ≡ get_or t p 0)
 
-module _ (guards all : List ℕ) {i w : ℕ} {s n : State} {j k : Judging} {x : Tables} {f : Frame} {l : Level} {ws : List ℕ} (t : List ℕ)
+module _ (guards all : List ℕ) {i w : ℕ} {s n : State} {j k : Judging} {x : Units} {f : Frame} {l : Level} {ws : List ℕ} (t : List ℕ)
     (d : decode_word w ≡ Ok f) (g : step_frame f s ≡ stepped (Ok l) n) (o : OneFrame guards i f s j n k) (rest : Pass guards (suc i) n k ws)
     (e : drop i all ≡ w ∷ ws) (h : Kept s j x) (reached : Reached all i s) (below : Marks (λ v b. b < i) s j x) where
   r : InRange f
@@ -91,7 +92,7 @@ module _ (guards all : List ℕ) {i w : ℕ} {s n : State} {j k : Judging} {x : 
           )
 
 -- Every entry from the walk's place on.
-ahead : (guards all : List ℕ) (p : ℕ) {i : ℕ} {s : State} {j : Judging} {x : Tables} {ws : List ℕ} (t : List ℕ) → Pass guards i s j ws → drop i all ≡ ws
+ahead : (guards all : List ℕ) (p : ℕ) {i : ℕ} {s : State} {j : Judging} {x : Units} {ws : List ℕ} (t : List ℕ) → Pass guards i s j ws → drop i all ≡ ws
     → Kept s j x → Reached all i s → drop i (commits guards all) ≡ keys (keyed guards (view_of s j) i (frames_of ws)) → Marks (λ v b. b < i) s j x
     → p < length t → i ≤ p → Left guards all p t (commits_from guards i x ws t)
 unfolding commits_from
@@ -145,10 +146,10 @@ module _ (guards ws t : List ℕ) (red : Reducible guards ws) where
   not_too_long = rw (le-leb (length ws) most_frames (judgement_fits guards full_sets ws (Ok tt) red))
 
   keeps_length : length (commit_places guards ws t) ≡ length t
-  keeps_length = ap length not_too_long ∙ walk_long guards 0 start_tables ws t
+  keeps_length = ap length not_too_long ∙ walk_long guards 0 start_units ws t
 
   -- at the start every thread is outside
-  none_marked : Marks (λ v b. b < 0) start (start_judging full_sets) start_tables
+  none_marked : Marks (λ v b. b < 0) start (start_judging full_sets) start_units
   none_marked v y = let z : false ≡ true = sym y ∙ ap (λ (x : Run). run.settled x v) start_view in never (cc)
 
   in_table : (p : ℕ) → p < length t → Left guards ws p t (commit_places guards ws t)

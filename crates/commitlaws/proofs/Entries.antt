@@ -21,7 +21,8 @@ use Rattle.soundness.specs.declared.State.{State}
 use Rattle.soundness.specs.declared.Level.{Level}
 use Rattle.instrumented.specs.Rules.{Judging}
 use Rattle.exchange.specs.Exchange.{frames_of}
-use Rattle.commit.specs.Commit.{Tables, start_in, visited, unit_start}
+use Rattle.commit.specs.Commit.{start_in, visited, unit_start}
+use Rattle.commit.specs.declared.Units.{Units}
 use Rattle.reduction.proofs.Run as run
 use Rattle.reduction.proofs.Run.{thread_of, Run, onto, commit_place, seen}
 use Rattle.orderlaws.proofs.View.{view_of, OneFrame}
@@ -45,18 +46,18 @@ none_before z a i c e q = by_test (eqb c 0) (λ y. y) (λ y. go a (rw (e, y) at 
     go false p = p
 
 -- Q holds of each thread whose unit has not committed and of the place where that unit starts.
-abbrev pub Marks : (ℕ → ℕ → Type 0) → State → Judging → Tables → Type 0
+abbrev pub Marks : (ℕ → ℕ → Type 0) → State → Judging → Units → Type 0
 Marks Q s j x = (v : ℕ) → run.settled (view_of s j) v ≡ false → Q v (get_or x.starts v 0)
 
 -- the mark of the unit that a frame commits
-mark_commits : (b i : ℕ) (a z : Bool) (m c : ℕ) (k : Bool) → eqb m 0 ≡ k → eqb c 0 ≡ k
-    → cond (eqb m 0) (cond (a || z) (Some b) None) None
+mark_commits : (b i : ℕ) (a z m : Bool) (c : ℕ) → not m ≡ eqb c 0
+    → cond m None (cond (a || z) (Some b) None)
     ≡ cond (eqb c 0 && (z || not (eqb (cond z 0 (cond (a && eqb c 0) (suc i) c)) 0))) (Some b) None
-mark_commits b i a z m c false em ec = rw (em, ec)
-mark_commits b i true true m c true em ec = rw (em, ec)
-mark_commits b i true false m c true em ec = rw (em, ec, ne_eqb (suc i) 0 (λ k. omega arith))
-mark_commits b i false true m c true em ec = rw (em, ec)
-mark_commits b i false false m c true em ec = rw (em, ec)
+mark_commits b i a z true c e = rw (← e)
+mark_commits b i true true false c e = rw (← e)
+mark_commits b i true false false c e = rw (← e, ne_eqb (suc i) 0 (λ k. omega arith))
+mark_commits b i false true false c e = rw (← e)
+mark_commits b i false false false c e = rw (← e)
 
 -- an entry after a unit is noted: of another start; where none commits; of its own
 noted_other : (c z : Bool) (b i p : ℕ) (t : List ℕ) → (c ≡ true → b ≡ p → ⊥) → get_or (noted (cond (c && z) (Some b) None) i t) p 0 ≡ get_or t p 0
@@ -79,7 +80,7 @@ pub noted_long : (m : Option ℕ) (i : ℕ) (t : List ℕ) → length (noted m i
 noted_long (Some b) i t = length-set t b (i + 1)
 noted_long None i t = refl
 
-module _ (guards : List ℕ) {i : ℕ} {s n : State} {j k : Judging} {x : Tables} {f : Frame} {l : Level} (r : InRange f)
+module _ (guards : List ℕ) {i : ℕ} {s n : State} {j k : Judging} {x : Units} {f : Frame} {l : Level} (r : InRange f)
     (g : step_frame f s ≡ stepped (Ok l) n) (o : OneFrame guards i f s j n k) (h : Kept s j x) where
   -- where the unit of the frame starts
   abbrev pub from : ℕ
@@ -124,7 +125,7 @@ module _ (guards : List ℕ) {i : ℕ} {s n : State} {j k : Judging} {x : Tables
   unit_start_lem =
       rw (commits_are guards f g h, h.depths_are, eq-eqb (thread_of f) (thread_of f) refl)
       (mark_commits from i (run.committing (seen guards (view_of s j) f)) (eqb (nest (get_or s.depths (thread_of f) 0) f.action) 0)
-      (get_or x.committed (thread_of f) 0) ((view_of s j).committed (thread_of f)) (eqb ((view_of s j).committed (thread_of f)) 0) (h.committed_is (thread_of f)) refl)
+      (get_or x.committed (thread_of f) false) ((view_of s j).committed (thread_of f)) (h.committed_is (thread_of f)))
 
   -- an entry that is not of the frame's unit; one where the unit does not commit; the unit's where it does
   pub stays : (p : ℕ) (t : List ℕ) → (eqb ((view_of s j).committed (thread_of f)) 0 ≡ true → from ≡ p → ⊥)
@@ -142,7 +143,7 @@ module _ (guards : List ℕ) {i : ℕ} {s n : State} {j k : Judging} {x : Tables
       rw unit_start_lem (noted_own (eqb ((view_of s j).committed (thread_of f)) 0) (run.settled (onto guards (view_of s j) i f) (thread_of f)) from i p t l c e q)
 
 -- The table keeps its length.
-pub walk_long : (guards : List ℕ) (i : ℕ) (x : Tables) (ws t : List ℕ) → length (commits_from guards i x ws t) ≡ length t
+pub walk_long : (guards : List ℕ) (i : ℕ) (x : Units) (ws t : List ℕ) → length (commits_from guards i x ws t) ≡ length t
 unfolding commits_from
 walk_long guards i x [] t = refl
 walk_long guards i x (w ∷ ws) t = go (decode_word w) refl (λ f. walk_long guards (i + 1) (visited guards i f x) ws (noted (unit_start guards i f x) i t))
@@ -155,7 +156,7 @@ walk_long guards i x (w ∷ ws) t = go (decode_word w) refl (λ f. walk_long gua
 
 module _ (guards : List ℕ) (p : ℕ) where
   -- An entry that no unit has that is still to commit.
-  pub quiet : {i : ℕ} {s : State} {j : Judging} {x : Tables} {ws : List ℕ} (t : List ℕ) → Pass guards i s j ws → Kept s j x → p < i
+  pub quiet : {i : ℕ} {s : State} {j : Judging} {x : Units} {ws : List ℕ} (t : List ℕ) → Pass guards i s j ws → Kept s j x → p < i
       → Marks (λ v b. b ≡ p → ⊥) s j x → get_or (commits_from guards i x ws t) p 0 ≡ get_or t p 0
   unfolding commits_from
   quiet t end h l m = refl
@@ -167,7 +168,7 @@ module _ (guards : List ℕ) (p : ℕ) where
       ∙ stays guards r g o h p t (marks_here guards r g o h (λ v b. b ≡ p → ⊥) m (λ z e. omega arith)))
 
   -- The frame's own unit, which starts at p: it commits with the frame, or is still to commit.
-  module _ (whole : ℕ) {i : ℕ} {s n : State} {j k : Judging} {x : Tables} {f : Frame} {l : Level} {ws : List ℕ} (t : List ℕ) (r : InRange f)
+  module _ (whole : ℕ) {i : ℕ} {s n : State} {j k : Judging} {x : Units} {f : Frame} {l : Level} {ws : List ℕ} (t : List ℕ) (r : InRange f)
       (g : step_frame f s ≡ stepped (Ok l) n) (o : OneFrame guards i f s j n k) (h : Kept s j x) where
     pub owned : Pass guards (suc i) n k ws → p < length t → p ≤ i → i < whole → from guards r g o h ≡ p → eqb ((view_of s j).committed (thread_of f)) 0 ≡ true
         → Marks (λ v b. b ≡ p → v ≡ thread_of f) n k (visited guards i f x)
@@ -191,7 +192,7 @@ module _ (guards : List ℕ) (p : ℕ) where
             never (cc)
 
   -- The entry of a unit of thread u that is still to commit.
-  pub pending : (whole u : ℕ) {i : ℕ} {s : State} {j : Judging} {x : Tables} {ws : List ℕ} (t : List ℕ) → Pass guards i s j ws → Kept s j x → p < length t → p < i
+  pub pending : (whole u : ℕ) {i : ℕ} {s : State} {j : Judging} {x : Units} {ws : List ℕ} (t : List ℕ) → Pass guards i s j ws → Kept s j x → p < length t → p < i
       → whole ≡ i + length ws → Marks (λ v b. b ≡ p → v ≡ u) s j x → run.settled (view_of s j) u ≡ false → get_or x.starts u 0 ≡ p
       → get_or (commits_from guards i x ws t) p 0 ≡ entry whole (commit_place guards u (view_of s j) i (frames_of ws)) (get_or t p 0)
   unfolding commits_from

@@ -9,6 +9,8 @@ use Rattle.guards.specs.Judgement.{Judgement}
 use Rattle.reply.specs.Reply.{Reply}
 use Rattle.pass.specs.Pass.{full_sets, judgement, open_at_end}
 use Rattle.serial.specs.Order.{serial_words}
+use Rattle.displacement.specs.Displacement.{ordered_places}
+use Rattle.walk.specs.Laid.{laid}
 use Rattle.frame.specs.declared.Refused.{Refused}
 
 abbrev pub reducible_reply : Reply → Bool
@@ -34,24 +36,13 @@ reply_by short guards ws room =
     cond (reducible_reply (judgement guards full_sets ws).reply) (closed_reply short (open_at_end (judgement guards full_sets ws)) (length ws) room)
     (irreducible (judgement guards full_sets ws).reply)
 
--- "15: output shorter than the recording; its length"
-abbrev pub order_reply : List ℕ → List ℕ → ℕ → Result ℕ Refused
-order_reply guards ws room = reply_by refusal.OutputBuffer guards ws room
-
 -- "Each unit's frames are written from the place where the last unit stopped; words beyond the recording's length stay unchanged"; a refusal
 -- changes no lent buffer. Over any element type: what is written has an element for each frame.
 abbrev pub out_after : {A : Type 0} → Result ℕ Refused → List A → List A → List A
 out_after (Err x) xs out = out
 out_after (Ok n) xs out = xs ++ drop n out
 
-unfoldable pub order_out : List ℕ → List ℕ → List ℕ → List ℕ
-order_out guards ws out = out_after (order_reply guards ws (length out)) (serial_words guards ws) out
-
 -- "A guard list is checked before the recording."
-abbrev pub list_refused : Result ℕ Refused → Result ℕ Refused
-list_refused (Ok n) = Ok 0
-list_refused (Err x) = Err x
-
 abbrev pub on_list : Result ℕ Refused → Result ℕ Refused → Result ℕ Refused
 on_list (Ok n) r = r
 on_list (Err x) r = Err x
@@ -60,8 +51,19 @@ on_list (Err x) r = Err x
 unfoldable pub reply_under : Refusal → Judgement → List ℕ → List ℕ → ℕ → Result ℕ Refused
 reply_under short j list ws room = on_list (guards_under j list).reply (reply_by short (guards_under j list).table ws room)
 
+-- "15: output shorter than the recording; its length"
 abbrev pub order_under : Judgement → List ℕ → List ℕ → ℕ → Result ℕ Refused
 order_under j list ws room = reply_under refusal.OutputBuffer j list ws room
 
 unfoldable pub out_under : Judgement → List ℕ → List ℕ → List ℕ → List ℕ
 out_under j list ws out = out_after (order_under j list ws (length out)) (serial_words (guards_under j list).table ws) out
+
+-- The same whatever a table holds of a frame, which `put` puts into it: the frames of the order put one after the other; a refusal changes
+-- nothing.
+abbrev pub table_after : {A : Type 0} → Result ℕ Refused → List A → List A → List A
+table_after (Ok n) new old = new
+table_after (Err x) new old = old
+
+unfoldable pub written_under : {A : Type 0} → (ℕ → ℕ → ℕ → List A → List A) → Refusal → Judgement → List ℕ → List ℕ → List A → List A
+written_under put short j list ws table =
+    table_after (reply_under short j list ws (length table)) (laid put ws 0 (ordered_places (guards_under j list).table ws) table) table

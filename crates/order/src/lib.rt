@@ -1,45 +1,20 @@
-// The serial order of a recording by a judgement: all checks, then the order into a lent buffer.
+// What is asked by a judgement of a recording in its serial order: all checks, then the walk into a lent table. The order itself is that of words.
 
 #![tactic(auto)]
 
-ghost use Rattle.std.specs.Prelude.{◌≡◌, not, length};
-ghost use Rattle.order.specs.Order.{reducible_reply, irreducible, list_refused, reply_by, order_reply, order_out, order_under, out_under};
+ghost use Rattle.std.specs.Prelude.{◌≡◌, length};
+ghost use Rattle.guards.specs.Judgement.{way_of, list_of};
+ghost use Rattle.order.specs.Order.{reply_by, reply_under, written_under, order_under, out_under};
 
 use frame::{ALL_LOCKS, Refusal, Refused, VARIABLES};
-use guards::Judgement;
-use reply::Reply;
+use guards::{Judgement, UNPROTECTED};
+use soundness::Sound;
+use walk::Entry;
 
-// The refusal of a recording that is refused or not reducible.
-fn refusal(r: Reply) -> Result<u32, Refused>
-    ensures { result ≡ irreducible r }
-{
-    match r {
-        Err(x) => Err(x),
-        Ok(v) => match v {
-            Err(w) => Err(Refused {
-                reason: Refusal::Irreducible,
-                place: w.frame,
-            }),
-            Ok(()) => Ok(0),
-        },
-    }
-}
-
-fn is_irreducible(r: Reply) -> bool
-    ensures { result ≡ not (reducible_reply r) }
-{
-    match r {
-        Err(_) => true,
-        Ok(v) => match v {
-            Err(_) => true,
-            Ok(()) => false,
-        },
-    }
-}
-
-// What a request on a recording under a table of guards is answered, with what it writes left out: a lent buffer has room elements, and is
-// refused by short where these are fewer than the frames.
-pub fn check(
+// What a request on a recording under a table of guards is answered, with what it writes left out: a lent table has room for a number of
+// entries, and is refused by `short` where these are fewer than the frames.
+#[tactic(auto, unfolding(crate::specs::Order::reply_by, pass::specs::Pass::full_sets))]
+fn check(
     words: &[u32],
     guards: &[u8; VARIABLES],
     room: usize,
@@ -48,64 +23,41 @@ pub fn check(
     ensures { result ≡ reply_by short guards.now words.now room }
 {
     let mut sets = [ALL_LOCKS; VARIABLES];
-    let p = pass::judge_recording(words, guards, &mut sets);
-    let r = p.reply;
-    if is_irreducible(r) {
-        return refusal(r);
+    let passed = pass::judge_recording(words, guards, &mut sets);
+    if let Err(violation) = passed.reply? {
+        return Err(Refusal::Irreducible.at(violation.frame));
     }
-    let unclosed = p.unclosed;
-    if let Some(b) = unclosed {
-        return Err(Refused {
-            reason: Refusal::OpenBlock,
-            place: b,
-        });
+    if let Some(begin) = passed.unclosed {
+        return Err(Refusal::OpenBlock.at(begin));
     }
-    let n = words.len() as u32;
+    let count = words.len() as u32;
     if room < words.len() {
-        return Err(Refused {
-            reason: short,
-            place: n,
-        });
+        return Err(short.at(count));
     }
-    Ok(n)
+    Ok(count)
 }
 
-// The serial order under a table of guards: the checks, and the walk, which writes.
-fn under_guards(words: &[u32], guards: &[u8; VARIABLES], out: &mut [u32]) -> Result<u32, Refused>
-    ensures reply { result ≡ order_reply guards.now words.now (length out.old) }
-    ensures contents { out.new ≡ order_out guards.now words.now out.old }
+// What a table holds of each frame, put into it in the serial order by a judgement. The reply is the number of frames.
+#[tactic(auto, unfolding(crate::specs::Order::reply_under, crate::specs::Order::written_under))]
+pub fn write<E: Entry>(
+    judgement: Judgement<'_>,
+    words: &[u32],
+    table: &mut [E],
+) -> Result<u32, Refused>
+    ensures reply { result ≡ reply_under E.SHORT (way_of judgement.entry) (list_of judgement.entry) words.now (length table.old) }
+    ensures contents { table.new ≡ written_under E.put E.SHORT (way_of judgement.entry) (list_of judgement.entry) words.now table.old }
 {
-    let q = check(words, guards, out.len(), Refusal::OutputBuffer);
-    let Ok(_) = q else {
-        return q;
-    };
-    let w = walk::write_order(words, guards, out);
-    match w {
-        Err(x) => Err(x),
-        Ok(()) => q,
-    }
+    let mut guards = [UNPROTECTED; VARIABLES];
+    judgement.guards(&mut guards)?;
+    let count = check(words, &guards, table.len(), E::SHORT)?;
+    walk::write(Sound { words }, &guards, table);
+    Ok(count)
 }
 
-// The refusal of a guard list.
-pub fn list_refused(q: Result<u32, Refused>) -> Result<u32, Refused>
-    ensures { result ≡ list_refused q }
+// The serial order by a judgement.
+pub fn order(judgement: Judgement<'_>, words: &[u32], out: &mut [u32]) -> Result<u32, Refused>
+    ensures reply { result ≡ order_under (way_of judgement.entry) (list_of judgement.entry) words.now (length out.old) }
+    ensures contents { out.new ≡ out_under (way_of judgement.entry) (list_of judgement.entry) words.now out.old }
 {
-    match q {
-        Err(x) => Err(x),
-        Ok(_) => Ok(0),
-    }
-}
-
-// The serial order by a judgement. Where guards are inferred, the list is not read.
-pub fn order(j: Judgement, list: &[u8], words: &[u32], out: &mut [u32]) -> Result<u32, Refused>
-    ensures reply { result ≡ order_under j list.now words.now (length out.old) }
-    ensures contents { out.new ≡ out_under j list.now words.now out.old }
-{
-    let g = guards::guards_under(j, list);
-    let q = g.reply;
-    let Ok(_) = q else {
-        return list_refused(q);
-    };
-    let table = g.table;
-    under_guards(words, &table, out)
+    write(judgement, words, out)
 }

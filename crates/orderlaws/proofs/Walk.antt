@@ -1,7 +1,7 @@
 -- The code's walk over a recording that the pass judges reducible is the walk over frames: what it keeps follows the state of the pass. In this
--- order: the counts, the depths, what commits; the tables; the units of open blocks; the unit that a frame commits; the walk.
+-- order: the counts, the depths, what commits; the units that the walk keeps; the units of open blocks; the unit that a frame commits; the walk.
 use Rattle.std.specs.Prelude.{Ok, Some, None}
-use Prim.Native.Nat.{ℕ, suc, ◌-◌}
+use Prim.Native.Nat.{ℕ, zero, suc, ◌-◌, ◌<◌}
 use mathlib.Core.Path.{◌≡◌, refl, sym, ap, ◌∙◌, subst}
 use mathlib.Core.Bool.{Bool, true, false, cond, not, ◌&&◌, ◌||◌}
 use mathlib.Core.Logic.{inl, inr}
@@ -10,8 +10,8 @@ use native.Mathlib.Omega.{arith}
 use native.Mathlib.Numerals.{add-one}
 use borrow.Author.Tests.{eqb-true, eqb-false, eq-eqb, ne_eqb, ltb-true, le-leb, lt-leb}
 use lib.Dec.{eqb, leb, ltb}
-use lib.ListN.{length, get_or, set, drop, length-set}
-use lib.Seq.{set-get_or, drop-drop}
+use lib.ListN.{length, get_or, set, drop, replicate, length-set}
+use lib.Seq.{set-get_or, drop-drop, get_or-set_same, get_or-set_other}
 use Rattle.laws.proofs.Logic.{by_test}
 use Rattle.laws.proofs.Lists.{get_or_set, get_or_filled, rest_of}
 use Rattle.frame.specs.Limits.{thread_count, lock_count, deepest}
@@ -30,7 +30,8 @@ use Rattle.soundness.proofs.Laws.{spared, Acquired, took, took_again, acquired, 
 use Rattle.instrumented.specs.Rules.{Judging}
 use Rattle.operation.specs.Operation.{guarded_access}
 use Rattle.exchange.specs.Exchange.{frames_of}
-use Rattle.commit.specs.Commit.{Tables, start_tables, counted, committing, start_in, visited, unit_start}
+use Rattle.commit.specs.declared.Units.{Units}
+use Rattle.commit.specs.Commit.{start_units, counted, committing, start_in, visited, unit_start}
 use Rattle.serial.specs.Walk.{unit_from, unit_of, unit_in, walk_from}
 use Rattle.rules.proofs.Counts.{Is, Counts, counted_next, start_counts}
 use Rattle.reduction.proofs.Run as run
@@ -116,32 +117,43 @@ step_commits guards t (action.Write v) s n j x e = access_commits (get_or guards
 step_commits guards t action.Begin s n j x e = refl
 step_commits guards t action.End s n j x e = refl
 
+-- an entry after a store to a list of marks, and one of a list with none
+mark_set : (l : List Bool) (i : ℕ) (v : Bool) (u : ℕ) → i < length l → get_or (set l i v) u false ≡ cond (eqb u i) v (get_or l u false)
+mark_set l i v u h = by_test (eqb u i)
+    (λ q. let same : u ≡ i = eqb-true u i q in rw (q, same) (get_or-set_same l i v false h))
+    (λ q. rw q (get_or-set_other l i u v false (eqb-false u i q)))
+
+no_mark : (n i : ℕ) → get_or (replicate n false) i false ≡ false
+no_mark zero i = refl
+no_mark (suc n) zero = refl
+no_mark (suc n) (suc i) = no_mark n i
+
 -- What the walk keeps is what the pass has, and its own lists have an entry for each thread.
-pub record Kept (s : State) (j : Judging) (x : Tables) : Type 0 where
+pub record Kept (s : State) (j : Judging) (x : Units) : Type 0 where
   pub locks : Counts s
   pub counts_are : x.counts ≡ s.counts
   pub depths_are : x.depths ≡ s.depths
   pub starts_long : length x.starts ≡ thread_count
   pub committed_long : length x.committed ≡ thread_count
-  pub committed_is : (u : ℕ) → eqb (get_or x.committed u 0) 0 ≡ eqb ((view_of s j).committed u) 0
+  pub committed_is : (u : ℕ) → not (get_or x.committed u false) ≡ eqb ((view_of s j).committed u) 0
 
-pub kept_start : (j : Judging) → Kept start j start_tables
-unfolding start start_tables
+pub kept_start : (j : Judging) → Kept start j start_units
+unfolding start start_units
 kept_start j = record {
   locks = start_counts;
   counts_are = refl;
   depths_are = refl;
   starts_long = refl;
   committed_long = refl;
-  committed_is = λ u. rw (get_or_filled thread_count u 0);
+  committed_is = λ u. rw (no_mark thread_count u, get_or_filled thread_count u 0);
 }
 
-pub commits_are : (guards : List ℕ) (f : Frame) {s n : State} {j : Judging} {x : Tables} {l : Level} → step_frame f s ≡ stepped (Ok l) n → Kept s j x
+pub commits_are : (guards : List ℕ) (f : Frame) {s n : State} {j : Judging} {x : Units} {l : Level} → step_frame f s ≡ stepped (Ok l) n → Kept s j x
     → committing guards x.counts f.action ≡ run.committing (seen guards (view_of s j) f)
 commits_are guards f {s} {n} {j} {x} {l} g h = rw h.counts_are (step_commits guards (thread_of f) f.action s n j l g)
 
 -- whether a unit has committed, where the walk's mark m and the run's commit c agree
-after_is : (b z : Bool) (i m c : ℕ) → eqb m 0 ≡ eqb c 0 → eqb (cond z 0 (cond b 1 m)) 0 ≡ eqb (cond z 0 (cond (b && eqb c 0) (suc i) c)) 0
+after_is : (b z : Bool) (i : ℕ) (m : Bool) (c : ℕ) → not m ≡ eqb c 0 → not (cond z false (b || m)) ≡ eqb (cond z 0 (cond (b && eqb c 0) (suc i) c)) 0
 after_is b true i m c e = refl
 after_is true false i m c e = go (eqb c 0) refl
   where
@@ -150,14 +162,14 @@ after_is true false i m c e = go (eqb c 0) refl
     go false p = sym p
 after_is false false i m c e = e
 
-module _ (guards : List ℕ) {i : ℕ} {s n : State} {j k : Judging} {x : Tables} {f : Frame} {l : Level} (r : InRange f)
+module _ (guards : List ℕ) {i : ℕ} {s n : State} {j k : Judging} {x : Units} {f : Frame} {l : Level} (r : InRange f)
     (g : step_frame f s ≡ stepped (Ok l) n) (o : OneFrame guards i f s j n k) (h : Kept s j x) where
-  next_committed : (u : ℕ) → eqb (get_or (visited guards i f x).committed u 0) 0 ≡ eqb ((onto guards (view_of s j) i f).committed u) 0
+  next_committed : (u : ℕ) → not (get_or (visited guards i f x).committed u false) ≡ eqb ((onto guards (view_of s j) i f).committed u) 0
   unfolding visited
-  next_committed u = rw (get_or_set x.committed (thread_of f) _ u (omega (arith, h.committed_long, r.thread)), commits_are guards f g h, h.depths_are)
+  next_committed u = rw (mark_set x.committed (thread_of f) _ u (omega (arith, h.committed_long, r.thread)), commits_are guards f g h, h.depths_are)
       (by_test (eqb u (thread_of f))
       (λ q. rw q (after_is (run.committing (seen guards (view_of s j) f)) (eqb (nest (get_or s.depths (thread_of f) 0) f.action) 0) i
-      (get_or x.committed (thread_of f) 0) ((view_of s j).committed (thread_of f)) (h.committed_is (thread_of f))))
+      (get_or x.committed (thread_of f) false) ((view_of s j).committed (thread_of f)) (h.committed_is (thread_of f))))
       (λ q. rw q (h.committed_is u)))
 
   pub kept_next : Kept n k (visited guards i f x)
@@ -172,11 +184,11 @@ module _ (guards : List ℕ) {i : ℕ} {s n : State} {j k : Judging} {x : Tables
   }
 
 -- What the walk has of the units of the blocks that are open is what the walk over frames has of them, over any element type.
-abbrev Opens : {A : Type 0} → List ℕ → List A → State → Tables → (ℕ → List Frame) → (ℕ → List A) → Type 0
+abbrev Opens : {A : Type 0} → List ℕ → List A → State → Units → (ℕ → List Frame) → (ℕ → List A) → Type 0
 Opens all xs s x q y =
     (u : ℕ) → (get_or s.depths u 0 ≡ 0 → ⊥) → unit_of all xs (get_or x.starts u 0) (record { 0 = u }) ≡ units.unit_from u 0 (q u) (y u)
 
-module _ {A : Type 0} (guards all : List ℕ) (xs : List A) {i w : ℕ} {s : State} {j : Judging} {x : Tables} {f : Frame} {ws : List ℕ} (q : ℕ → List Frame)
+module _ {A : Type 0} (guards all : List ℕ) (xs : List A) {i w : ℕ} {s : State} {j : Judging} {x : Units} {f : Frame} {ws : List ℕ} (q : ℕ → List Frame)
     (y : ℕ → List A) (r : InRange f) (d : decode_word w ≡ Ok f) (p : Pass guards i s j (w ∷ ws)) (e : drop i all ≡ w ∷ ws) (h : Kept s j x)
     (v : Opens all xs s x q y) where
   -- the unit of the frame's thread, from its start on
@@ -211,14 +223,14 @@ module _ {A : Type 0} (guards all : List ℕ) (xs : List A) {i w : ℕ} {s : Sta
   settled_own = rw (eq-eqb (thread_of f) (thread_of f) refl)
 
   -- where a frame commits a unit
-  commits_unit : (b : ℕ) (u : List A) → unit_of all xs b f.thread ≡ u → (a z : Bool) (m c : ℕ) → (k : Bool) → eqb m 0 ≡ k → eqb c 0 ≡ k
-      → unit_in (cond (eqb m 0) (cond (a || z) (Some b) None) None) all xs f.thread
+  commits_unit : (b : ℕ) (u : List A) → unit_of all xs b f.thread ≡ u → (a z m : Bool) (c : ℕ) → not m ≡ eqb c 0
+      → unit_in (cond m None (cond (a || z) (Some b) None)) all xs f.thread
       ≡ cond (eqb c 0 && (z || not (eqb (cond z 0 (cond (a && eqb c 0) (suc i) c)) 0))) u []
-  commits_unit b u o a z m c false em ec = rw (em, ec)
-  commits_unit b u o true true m c true em ec = rw (em, ec) o
-  commits_unit b u o true false m c true em ec = rw (em, ec, ne_eqb (suc i) 0 (λ k. omega arith)) o
-  commits_unit b u o false true m c true em ec = rw (em, ec) o
-  commits_unit b u o false false m c true em ec = rw (em, ec)
+  commits_unit b u o a z true c e = rw (← e)
+  commits_unit b u o true true false c e = rw (← e) o
+  commits_unit b u o true false false c e = rw (← e, ne_eqb (suc i) 0 (λ k. omega arith)) o
+  commits_unit b u o false true false c e = rw (← e) o
+  commits_unit b u o false false false c e = rw (← e)
 
   -- The unit that the frame commits.
   emits : {l : Level} {n : State} → step_frame f s ≡ stepped (Ok l) n
@@ -228,10 +240,10 @@ module _ {A : Type 0} (guards all : List ℕ) (xs : List A) {i w : ℕ} {s : Sta
       rw (commits_are guards f g h, h.depths_are, settled_own)
       (commits_unit (start_in (get_or s.depths (thread_of f) 0) i (get_or x.starts (thread_of f) 0)) _ unit_of_lem
       (run.committing (seen guards (view_of s j) f)) (eqb (nest (get_or s.depths (thread_of f) 0) f.action) 0)
-      (get_or x.committed (thread_of f) 0) ((view_of s j).committed (thread_of f)) (eqb ((view_of s j).committed (thread_of f)) 0) (h.committed_is (thread_of f)) refl)
+      (get_or x.committed (thread_of f) false) ((view_of s j).committed (thread_of f)) (h.committed_is (thread_of f)))
 
 -- The walk over the words is the walk over the frames.
-walks : {A : Type 0} (guards all : List ℕ) (xs : List A) (q : ℕ → List Frame) (y : ℕ → List A) {i : ℕ} {s : State} {j : Judging} {x : Tables} {ws : List ℕ}
+walks : {A : Type 0} (guards all : List ℕ) (xs : List A) (q : ℕ → List Frame) (y : ℕ → List A) {i : ℕ} {s : State} {j : Judging} {x : Units} {ws : List ℕ}
     → Pass guards i s j ws → drop i all ≡ ws → Kept s j x → Opens all xs s x q y
     → walk_from guards all xs i x ws ≡ walk guards (view_of s j) q y i (frames_of ws) (drop i xs)
 unfolding walk_from
@@ -252,6 +264,6 @@ walks {A} guards all xs q y {x = x} (on {i = i} {s = s} {j = j} {w = w} {ws = ws
 
 -- From the start.
 pub pass_walk : {A : Type 0} (guards : List ℕ) (xs : List A) {j : Judging} {ws : List ℕ} → Pass guards 0 start j ws
-    → walk_from guards ws xs 0 start_tables ws ≡ walk guards (view_of start j) (λ t. []) (λ t. []) 0 (frames_of ws) xs
+    → walk_from guards ws xs 0 start_units ws ≡ walk guards (view_of start j) (λ t. []) (λ t. []) 0 (frames_of ws) xs
 unfolding start
 pass_walk guards xs {j} {ws} p = walks guards ws xs (λ t. []) (λ t. []) p refl (kept_start j) (λ u ne. absurd (ne (get_or_filled thread_count u 0)))

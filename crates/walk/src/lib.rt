@@ -5,17 +5,24 @@
 ghost use Rattle.std.specs.Prelude.{◌≡◌, ◌+◌, ◌^◌, ◌<◌, ◌≤◌, ℕ, List, length};
 ghost use Rattle.std.proofs.Common.{rules};
 ghost use Rattle.frame.specs.Limits.{most_frames};
+ghost use Rattle.frame.specs.declared.Refusal.{Refusal};
+ghost use Rattle.frame.specs.declared.Refusal.TheVariants.{OutputBuffer, MovesBuffer};
 ghost use Rattle.serial.specs.Walk.{unit_of, walk_of};
 ghost use Rattle.displacement.specs.Displacement.{places};
 ghost use Rattle.walk.specs.Laid.{put_word, put_move, laid};
 
 use commit::Units;
 use displacement::displacement;
-use frame::{Thread, VARIABLES};
+use frame::{Refusal, Thread, VARIABLES};
 use soundness::Sound;
 
 // What a table holds of each frame.
 pub trait Entry: Copy {
+    // The refusal of a table that is shorter than the recording.
+    const SHORT: Refusal;
+
+    ghost SHORT: { Refusal };
+
     // Whether a table of a length has room for a frame that stands at a place of the order and is recorded at another.
     ghost Fits: { ℕ → ℕ → ℕ → Type 0 };
 
@@ -26,14 +33,22 @@ pub trait Entry: Copy {
         requires { Fits order place (length table.old) }
         ensures { table.new ≡ put order place word table.old };
 
+    ghost enough: { (o p n l : ℕ) → n ≤ most_frames → n ≤ l → o < n → p < n → Fits o p l };
+
     ghost behind_fits: { (o p l : ℕ) → l < 2 ^ 64 → Fits o p l → o + 1 < 2 ^ 64 };
 }
 
 // A word stands at its frame's place of the order.
 impl Entry for u32 {
+    const SHORT: Refusal = Refusal::OutputBuffer;
+
+    ghost SHORT = { OutputBuffer };
+
     ghost Fits = { λ o p l. o < l };
 
     ghost put = { put_word };
+
+    ghost enough = { λ o p n l few long order place. Prim.search rules };
 
     ghost behind_fits = { λ o p l long fits. Prim.search rules };
 
@@ -44,9 +59,15 @@ impl Entry for u32 {
 
 // A displacement stands at its frame's place of the recording.
 impl Entry for i32 {
+    const SHORT: Refusal = Refusal::MovesBuffer;
+
+    ghost SHORT = { MovesBuffer };
+
     ghost Fits = { λ o p l. (p < l) × (o < most_frames) × (p < most_frames) };
 
     ghost put = { put_move };
+
+    ghost enough = { λ o p n l few long order place. Prim.search rules };
 
     ghost behind_fits = { λ o p l long fits. Prim.search rules };
 

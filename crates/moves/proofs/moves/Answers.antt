@@ -1,24 +1,9 @@
-use mathlib.Core.Path.{sym, ap, ◌∙◌}
-use Rattle.guards.specs.Guards.{GuardsRead}
-use Rattle.order.specs.Order.{reply_under}
-use Rattle.moves.specs.Moves.{moves_out, moves_out_under}
+use mathlib.Core.Path.{◌∙◌}
+use Rattle.frame.specs.declared.Refusal.TheVariants as refusal
+use Rattle.order.proofs.Laws.{moves_under}
+use Rattle.moves.specs.Moves.{moves_out_under}
 use Rattle.moves.proofs.moves.Goals as goal
 
-pub returns-in_default : goal.returns-in_default
-unfolding reply_under moves_out_under
-returns-in_default c =
-    let told = c.in_default.is in
-    let q = sym (ap (λ (x : GuardsRead). x.reply) c.guards_under-g.ensures) ∙ told in
-    record {
-      reply = rw (q, c.list_refused.ensures, told);
-      contents = rw q;
-    }
-
-pub returns : goal.returns
-unfolding reply_under moves_out_under moves_out
-returns c =
-    let q = sym (ap (λ (x : GuardsRead). x.reply) c.guards_under-g.ensures) ∙ c.in-Ok.is in
-    record {
-      reply = rw (q, ← c.guards_under-g.ensures) c.under_guards.ensures.reply;
-      contents = rw (q, ← c.guards_under-g.ensures) c.under_guards.ensures.contents;
-    }
+pub returns-clause-contents : goal.returns-clause-contents
+unfolding moves_out_under
+returns-clause-contents c = c.write.ensures.contents ∙ moves_under refusal.MovesBuffer _ _ _ _

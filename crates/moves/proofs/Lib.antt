@@ -1,2 +1,0 @@
--- Laws: what the walk writes of a reducible, closed recording are its displacements.
-mod Laws

@@ -1,4 +1,0 @@
-use Rattle.order.proofs.list_refused.Goals as goal
-
-pub returns-in-Err : goal.returns-in-Err
-returns-in-Err c = rw c.in-Err.is
