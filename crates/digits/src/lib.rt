@@ -105,12 +105,15 @@ pub fn join(d: &[u8]) -> u64
     v
 }
 
+// The digit of each value below 16.
+static DIGITS: [u8; 16] = *b"0123456789ABCDEF";
+
 // The digit of a value below 16.
 fn digit_byte(v: u8) -> u8
     requires { v < 16 }
     ensures { result ≡ byte_of v }
 {
-    if v < 10 { v + b'0' } else { v - 10 + b'A' }
+    DIGITS[v as usize]
 }
 
 // The low digits of a value, as many as out has bytes.

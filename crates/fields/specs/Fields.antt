@@ -38,7 +38,7 @@ line_fields s =
     (Err no_line))
     (Err no_line)
 
--- "The kind of fields that are written is tested as that of a line is." Where it is refused the bytes are zeros.
+-- "The kind of fields that are written is tested as that of a line is."
 abbrev pub written_line : Fields → Result (List ℕ) Refused
 written_line f =
     cond (is_kind f.kind) (Ok (fields_line f)) (Err no_line)

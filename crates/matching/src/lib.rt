@@ -4,10 +4,10 @@
 
 ghost use Rattle.std.specs.Prelude.{◌≡◌, ◌≤◌, ltb, length};
 ghost use Rattle.frame.specs.Frame.{ObjectInRange};
-ghost use Rattle.soundness.specs.Soundness.{check_reply};
 ghost use Rattle.matching.specs.Places.{no_lasts, last_at, with_last, Finds};
 
 use frame::{Action, LOCKS, Lock, Thread, VARIABLES, Variable};
+use soundness::Sound;
 
 // One more than a place, 0 for none: for each lock the last place matched that names it, for each variable the place of the last write
 // matched, and the greatest place matched of any access.
@@ -65,11 +65,11 @@ impl Lasts {
 // The first place, `from` or later, of a frame of a thread. Not inlined, since the loop is then shorter: what is done with the word found
 // would have it load whole words.
 #[inline(never)]
-pub fn find(words: &[u32], from: usize, thread: Thread) -> Option<usize>
-    requires sound { check_reply words.now ≡ (Ok tt) }
-    requires within { from ≤ length words.now }
-    ensures { Finds words.now thread.0 from result }
+pub fn find(sound: Sound<'_>, from: usize, thread: Thread) -> Option<usize>
+    requires { from ≤ length sound.words.now }
+    ensures { Finds sound.entry.words.now thread.0 from result }
 {
+    let words = sound.words;
     let number = u32::from(thread.0);
     for i in from..words.len() {
         if words[i] / 0x10000 % 0x100 == number {

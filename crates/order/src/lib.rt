@@ -8,6 +8,7 @@ ghost use Rattle.order.specs.Order.{reply_by, reply_under, written_under, order_
 
 use frame::{ALL_LOCKS, Refusal, Refused, VARIABLES};
 use guards::{Judgement, UNPROTECTED};
+use soundness::Sound;
 use walk::Entry;
 
 // What a request on a recording under a table of guards is answered, with what it writes left out: a lent table has room for a number of
@@ -49,7 +50,7 @@ pub fn write<E: Entry>(
     let mut guards = [UNPROTECTED; VARIABLES];
     judgement.guards(&mut guards)?;
     let count = check(words, &guards, table.len(), E::SHORT)?;
-    walk::write(words, &guards, table)?;
+    walk::write(Sound { words }, &guards, table);
     Ok(count)
 }
 

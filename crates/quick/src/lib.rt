@@ -3,12 +3,12 @@
 
 #![tactic(auto)]
 
-ghost use Rattle.std.specs.Prelude.{◌≡◌, eqb, not};
+ghost use Rattle.std.specs.Prelude.{◌≡◌, eqb, not, IfOk, IfErr, Err};
 ghost use Rattle.soundness.specs.Soundness.{check_reply};
 ghost use Rattle.quick.specs.Quick.{picked, object_end, held_end, owner_after, PassedBy, PassedTo};
 
 use frame::{DEEPEST, LOCKS, MOST, MOST_HELD, MOST_PLACE, Refusal, Refused, Thread, VARIABLES};
-use soundness::State;
+use soundness::{Sound, State};
 
 const LOCK_END: u16 = LOCKS as u16;
 
@@ -128,4 +128,13 @@ pub fn check(words: &[u32]) -> Result<(), Refused>
     let mut state = State::new();
     let from = passed(words, &mut state);
     state.check_from(words, from)
+}
+
+// A recording that passes the check, or why it does not.
+pub fn sound(words: &[u32]) -> Result<Sound<'_>, Refused>
+    ensures ok { IfOk result (λ sound. sound.words.now ≡ words.now) }
+    ensures err { IfErr result (λ refused. check_reply words.now ≡ Err refused) }
+{
+    check(words)?;
+    Ok(Sound { words })
 }

@@ -13,6 +13,8 @@ use lib.Dec.{eqb, leb, ltb}
 use borrow.Author.Tests.{le-ltb, ltb-false, leb-true, leb-false, eqb-true}
 use Rattle.frame.specs.Refusal.{refused_at}
 use Rattle.frame.specs.Limits.{most_frames, most_held}
+use Rattle.std.specs.Result.{IsOk}
+use Rattle.std.proofs.Common.{rules}
 use Rattle.laws.proofs.Logic.{never}
 use Rattle.frame.specs.Frame.{decode_word, frame_at}
 use Rattle.frame.proofs.Laws.{at_err}
@@ -184,3 +186,8 @@ check_place ws r e = rw e at (go (ltb most_frames (length ws)) refl)
     go : (t : Bool) → ltb most_frames (length ws) ≡ t → place_of (check_reply ws) ≤ most_frames
     go true q = rw q (omega arith)
     go false q = rw q (from_place 0 start ws most_frames (omega (arith, ltb-false most_frames (length ws) q)))
+
+-- so what the word at a place decodes to is a frame
+pub sound_decodes : (ws : List ℕ) → check_reply ws ≡ (Ok tt) → (k : ℕ) → k < length ws → (q : Result Frame Refusal) → q ≡ decode_word (get_or ws k 0) → IsOk q
+sound_decodes ws c k h (Ok f) e = search rules
+sound_decodes ws c k h (Err r) e = sound_not_bad ws c k h (sym e)

@@ -2,8 +2,8 @@
 
 #![tactic(auto)]
 
-ghost use Rattle.std.specs.Prelude.{◌≡◌, ◌≤◌, length, drop};
-ghost use Rattle.frame.specs.Frame.{InRange};
+ghost use Rattle.std.specs.Prelude.{◌≡◌, ◌≤◌, ◌<◌, Ok, length, drop, get_or};
+ghost use Rattle.frame.specs.Frame.{InRange, decode_word};
 ghost use Rattle.soundness.specs.Soundness.{step_frame, stepped, start, checked, check_from, check_reply};
 
 use frame::{
@@ -112,6 +112,23 @@ impl State {
             }
         }
         Ok(())
+    }
+}
+
+// A recording that is sound.
+#[derive(Clone, Copy)]
+pub struct Sound<'a> {
+    pub words: &'a [u32],
+    ghost is_sound: { check_reply words.now ≡ Ok tt },
+}
+
+impl Sound<'_> {
+    // The frame at a place: each word of a sound recording is one.
+    pub fn frame(self, place: usize) -> Frame
+        requires { place < length self.words.now }
+        ensures { decode_word (get_or self.entry.words.now place 0) ≡ Ok result }
+    {
+        Frame::try_from(self.words[place]).unwrap()
     }
 }
 

@@ -7,14 +7,14 @@ ghost use Rattle.std.proofs.Common.{rules};
 ghost use Rattle.frame.specs.Limits.{most_frames};
 ghost use Rattle.frame.specs.declared.Refusal.{Refusal};
 ghost use Rattle.frame.specs.declared.Refusal.TheVariants.{OutputBuffer, MovesBuffer};
-ghost use Rattle.soundness.specs.Soundness.{check_reply};
 ghost use Rattle.serial.specs.Walk.{unit_of, walk_of};
 ghost use Rattle.displacement.specs.Displacement.{places};
 ghost use Rattle.walk.specs.Laid.{put_word, put_move, laid};
 
 use commit::Units;
 use displacement::displacement;
-use frame::{Frame, Refusal, Refused, Thread, VARIABLES};
+use frame::{Refusal, Thread, VARIABLES};
+use soundness::Sound;
 
 // What a table holds of each frame.
 pub trait Entry: Copy {
@@ -79,17 +79,17 @@ impl Entry for i32 {
 // The frames of the unit of a thread that starts at a place, put into a table, in the order from a place on; the place behind them there. Of the
 // words of other threads only the thread is looked at.
 fn write_unit<E: Entry>(
-    words: &[u32],
+    sound: Sound<'_>,
     begin: usize,
     thread: Thread,
     table: &mut [E],
     order: usize,
 ) -> usize
-    requires sound { check_reply words.now ≡ (Ok tt) }
-    requires room { (o p : ℕ) → o < order + length (unit_of words.now (places words.now) begin thread) → p < length words.now → E.Fits o p (length table.old) }
-    ensures behind { result ≡ order + length (unit_of words.now (places words.now) begin thread) }
-    ensures contents { table.new ≡ laid E.put words.now order (unit_of words.now (places words.now) begin thread) table.old }
+    requires { (o p : ℕ) → o < order + length (unit_of sound.words.now (places sound.words.now) begin thread) → p < length sound.words.now → E.Fits o p (length table.old) }
+    ensures behind { result ≡ order + length (unit_of sound.entry.words.now (places sound.entry.words.now) begin thread) }
+    ensures contents { table.new ≡ laid E.put sound.entry.words.now order (unit_of sound.entry.words.now (places sound.entry.words.now) begin thread) table.old }
 {
+    let words = sound.words;
     let mut at = order;
     let mut depth = 0;
     for place in begin..words.len() {
@@ -107,23 +107,16 @@ fn write_unit<E: Entry>(
 }
 
 // The units of a sound recording, each put into a table where the one before stopped.
-pub fn write<E: Entry>(
-    words: &[u32],
-    guards: &[u8; VARIABLES],
-    table: &mut [E],
-) -> Result<(), Refused>
-    requires sound { check_reply words.now ≡ (Ok tt) }
-    requires room { (o p : ℕ) → o < length (walk_of guards.now words.now (places words.now)) → p < length words.now → E.Fits o p (length table.old) }
-    ensures reply { result ≡ (Ok tt) }
-    ensures contents { table.new ≡ laid E.put words.now 0 (walk_of guards.now words.now (places words.now)) table.old }
+pub fn write<E: Entry>(sound: Sound<'_>, guards: &[u8; VARIABLES], table: &mut [E])
+    requires { (o p : ℕ) → o < length (walk_of guards.now sound.words.now (places sound.words.now)) → p < length sound.words.now → E.Fits o p (length table.old) }
+    ensures { table.new ≡ laid E.put sound.entry.words.now 0 (walk_of guards.now sound.entry.words.now (places sound.entry.words.now)) table.old }
 {
     let mut units = Units::new();
     let mut order = 0;
-    for place in 0..words.len() {
-        let frame = Frame::at(words, place)?;
+    for place in 0..sound.words.len() {
+        let frame = sound.frame(place);
         if let Some(begin) = units.visit(guards, place as u32, frame) {
-            order = write_unit(words, begin as usize, frame.thread, table, order);
+            order = write_unit(sound, begin as usize, frame.thread, table, order);
         }
     }
-    Ok(())
 }

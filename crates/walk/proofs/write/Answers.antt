@@ -9,29 +9,21 @@ use Rattle.walk.proofs.write.Goals.{in-Some, in_default}
 pub loop-place-init : goal.loop-place-init
 loop-place-init g c = rw c.new-units.ensures (walk_begins _)
 
-pub returns-in_err-frame : goal.returns-in_err-frame
-returns-in_err-frame g c =
-    let e = at_err c.args.words.now c.loop-place.place (sym c.at.ensures ∙ c.in_err-frame.was) in
-    absurd (sound_not_bad c.args.words.now c.requires.sound _ c.loop-place-test.true e.1)
-
 pub visit-requires-clause-in_range : goal.visit-requires-clause-in_range
-visit-requires-clause-in_range g c = decoded_in_range _ _ (at_ok c.args.words.now c.loop-place.place (sym c.at.ensures ∙ c.in_ok-frame.was))
+visit-requires-clause-in_range g c = decoded_in_range _ _ c.frame-frame.ensures
 
 pub write_unit-order-requires : goal.write_unit-order-requires
 write_unit-order-requires g c =
     let l = c.loop-place in
-    let d = at_ok c.args.words.now l.place (sym c.at.ensures ∙ c.in_ok-frame.was) in
+    let d = c.frame-frame.ensures in
     let s = sym c.in-Some.is ∙ c.visit.ensures.start in
     let low = unit_within l.invariant c.loop-place-test.true d s in
-    record {
-      sound = c.requires.sound;
-      room = λ o p a b. subst (g.E.Entry.Fits o p) (sym l.auto.table) (c.requires.room o p (omega (arith, a, low)) b);
-    }
+    λ o p a b. subst (g.E.Entry.Fits o p) (sym l.auto.table) (c.requires o p (omega (arith, a, low)) b)
 
 pub loop-place-preserved : goal.loop-place-preserved
 loop-place-preserved g c =
     let l = c.loop-place in
-    let d = at_ok c.args.words.now l.place (sym c.at.ensures ∙ c.in_ok-frame.was) in
+    let d = c.frame-frame.ensures in
     elim c.match-visit.branch [
       | in-Some w ↦
           let u = w.write_unit-order.ensures in
@@ -40,5 +32,5 @@ loop-place-preserved g c =
           rw (w.table-is, w.order-is) (walk_skips l.invariant c.loop-place-test.true d (sym w.in_default.is ∙ c.visit.ensures.start) c.visit.ensures.units)
     ]
 
-pub returns-clause-contents : goal.returns-clause-contents
-returns-clause-contents g c = walk_ends c.loop-place.invariant c.loop-place-test.false
+pub returns : goal.returns
+returns g c = walk_ends c.loop-place.invariant c.loop-place-test.false

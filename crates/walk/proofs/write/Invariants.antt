@@ -1,6 +1,6 @@
--- Each turn is a law of proofs/Walks at the values that the code has there; a sound recording has no word that is no frame.
+-- Each turn is a law of proofs/Walks at the values that the code has there.
 use Rattle.walk.proofs.Walks.{WalkInv}
 use Rattle.walk.proofs.write.Given as goal
 
 abbrev pub invariant-loop-place : goal.invariant-loop-place
-invariant-loop-place g l = WalkInv g.E.Entry.put l.words l.guards l.initial.table l.table l.units l.order l.place
+invariant-loop-place g l = WalkInv g.E.Entry.put l.sound.words.now l.guards l.initial.table l.table l.units l.order l.place

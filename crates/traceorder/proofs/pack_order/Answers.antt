@@ -1,4 +1,0 @@
-use Rattle.traceorder.proofs.pack_order.Goals as goal
-
-pub returns-in-Err : goal.returns-in-Err
-returns-in-Err c = rw c.in-Err.is c.pack.ensures
