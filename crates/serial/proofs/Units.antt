@@ -17,7 +17,7 @@ use Rattle.frame.proofs.Laws.{shown, Operation, acquire, release, read, write, b
 use Rattle.soundness.specs.Soundness.{nest, check_reply}
 use Rattle.exchange.specs.Exchange.{frame_of}
 use Rattle.exchange.proofs.Frames.{Decodes, sound_decodes}
-use Rattle.serial.specs.Walk.{mine, other, own_frame, depth_by, unit_from, unit_of}
+use Rattle.serial.specs.Walk.{mine, other, own_frame, depth_by, unit_from}
 
 -- the depth by an operation is that by its action, and one deeper at most
 nest_by : {op : ℕ} → Operation op → (o d : ℕ) → nest d (action_of op o) ≡ depth_by op d

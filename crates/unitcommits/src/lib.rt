@@ -11,11 +11,7 @@ use guards::{Judgement, UNPROTECTED};
 
 // The commits by a judgement. The reply is the number of frames.
 #[tactic(auto, unfolding(crate::specs::UnitCommits::commits_under, crate::specs::UnitCommits::commits_out_under))]
-pub fn commits(
-    judgement: Judgement<'_>,
-    words: &[u32],
-    commits: &mut [u32],
-) -> Result<u32, Refused>
+pub fn commits(judgement: Judgement<'_>, words: &[u32], commits: &mut [u32]) -> Result<u32, Refused>
     ensures reply { result ≡ commits_under (way_of judgement.entry) (list_of judgement.entry) words.now }
     ensures contents { commits.new ≡ commits_out_under (way_of judgement.entry) (list_of judgement.entry) words.now commits.old }
 {

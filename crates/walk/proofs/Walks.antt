@@ -8,7 +8,7 @@ use native.Mathlib.Numerals.{add-one}
 use lib.ListN.{length, get_or, set, drop, drop_of_length-le, length-append}
 use lib.Seq.{drop-cons}
 use Rattle.laws.proofs.Lists.{get_or_filled, set_bounded}
-use Rattle.frame.specs.Limits.{thread_count, lock_count, most_frames}
+use Rattle.frame.specs.Limits.{thread_count, lock_count}
 use Rattle.frame.specs.Frame.{decode_word}
 use Rattle.frame.specs.declared.Action.{Action}
 use Rattle.frame.specs.declared.Action.TheVariants as action

@@ -1,7 +1,6 @@
 use mathlib.Core.Path.{sym, subst, ◌∙◌}
 use native.Mathlib.Omega.{arith}
-use Rattle.frame.proofs.Laws.{at_ok, at_err, decoded_in_range}
-use Rattle.soundness.proofs.Laws.{sound_not_bad}
+use Rattle.frame.proofs.Laws.{decoded_in_range}
 use Rattle.walk.proofs.Walks.{walk_begins, walk_ends, unit_within, walk_next, walk_skips}
 use Rattle.walk.proofs.write.Goals as goal
 use Rattle.walk.proofs.write.Goals.{in-Some, in_default}
