@@ -3,14 +3,13 @@ use Rattle.std.specs.Prelude.{Result, Ok, Err, Option, None}
 use Prim.Native.Nat.{ℕ, ◌+◌, ◌<◌, ◌≤◌}
 use mathlib.Core.Path.{◌≡◌, ◌∙◌, sym, ap, refl, subst}
 use mathlib.Core.List.{List}
-use native.Mathlib.Omega.{arith}
-use lib.ListN.{length, get_or, drop, replicate}
-use Rattle.frame.specs.Limits.{thread_count, lock_count, most_frames}
+use lib.ListN.{length, get_or, drop}
+use Rattle.frame.specs.Limits.{most_frames}
 use Rattle.frame.specs.Frame.{decode_word, frame_at}
 use Rattle.frame.proofs.Laws.{at_err}
 use Rattle.frame.specs.declared.Frame.{Frame}
 use Rattle.frame.specs.declared.Refusal.{Refusal}
-use Rattle.soundness.specs.Soundness.{state_of, check_from, start}
+use Rattle.soundness.specs.Soundness.{check_from, start}
 use Rattle.soundness.specs.declared.State.{State}
 use Rattle.reply.specs.Reply.{refused, reducible}
 use Rattle.reply.specs.declared.Violation.{Violation}

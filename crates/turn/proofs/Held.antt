@@ -16,7 +16,7 @@ use Rattle.frame.specs.declared.Action.TheVariants as action
 use Rattle.frame.specs.declared.Lock.{Lock}
 use Rattle.frame.specs.declared.Refusal.{Refusal}
 use Rattle.frame.specs.declared.Refusal.TheVariants as refusal
-use Rattle.soundness.specs.Soundness.{state_of, nested, Stepped, stepped, step_action, step_frame}
+use Rattle.soundness.specs.Soundness.{nested, Stepped, stepped, step_action, step_frame}
 use Rattle.soundness.specs.declared.State.{State}
 use Rattle.soundness.proofs.Laws.{spared, Acquired, took, took_again, acquired, Released, freed, let_go, released}
 use Rattle.soundness.specs.declared.Level.{Level}

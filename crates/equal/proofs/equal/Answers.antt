@@ -1,7 +1,7 @@
 -- The replies of the two checks decide, and then the comparison.
 use Rattle.std.specs.Prelude.{Ok, Err}
 use Rattle.std.proofs.Common.{rules}
-use mathlib.Core.Path.{◌≡◌, sym, ◌∙◌}
+use mathlib.Core.Path.{◌≡◌}
 use Rattle.soundness.specs.Soundness.{check_reply}
 use Rattle.equal.specs.declared.Side.TheVariants.{Left, Right}
 use Rattle.equal.proofs.Sides.{was_ok, was_err}

@@ -1,15 +1,11 @@
-use Rattle.std.proofs.Common.{rules}
 use mathlib.Core.Path.{sym, ◌∙◌}
 use native.Mathlib.Omega.{arith}
 use borrow.Author.Tests.{ltb-true, ltb-false}
-use Rattle.frame.proofs.Laws.{at_ok, at_err, decoded_in_range}
-use Rattle.soundness.proofs.Laws.{sound_not_bad}
+use Rattle.frame.proofs.Laws.{decoded_in_range}
 use Rattle.exchange.proofs.Exchange.{exchanges_length}
 use Rattle.exchange.proofs.Frames.{apart}
 use Rattle.equal.proofs.Exchanges.{no}
-use Rattle.equal.proofs.Sides.{was_ok, was_err}
 use Rattle.equal.proofs.Walk.{walk_start, walk_end, missing, words_differ, too_early, go_on}
-use Rattle.equal.specs.declared.Side.TheVariants.{Left}
 use Rattle.equal.proofs.same.Goals as goal
 
 pub returns-then-left-right : goal.returns-then-left-right

@@ -1,6 +1,5 @@
 -- The verdict by what is wrong with the operation, which leaves the state as it was.
 use lib.ListN.{get_or}
-use mathlib.Core.Path.{sym, ◌∙◌}
 use Rattle.instrumented.specs.Rules.{judging_of}
 use Rattle.judge.proofs.Laws.{marks, wrong_at_lem}
 use Rattle.judge.proofs.judge.Goals as goal

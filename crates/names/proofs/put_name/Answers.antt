@@ -1,7 +1,6 @@
 -- The line of the name, without its LF.
 use mathlib.Core.Path.{sym, ◌∙◌}
 use native.Mathlib.Omega.{arith}
-use lib.ListN.{length}
 use borrow.Author.Rules.{rules}
 use Rattle.std.specs.Prelude.{Some}
 use Rattle.output.specs.Output.{bytes, written}

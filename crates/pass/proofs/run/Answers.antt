@@ -1,5 +1,5 @@
 use Rattle.std.specs.Prelude.{Result, Err, None}
-use Rattle.std.proofs.Common.{rules, arith}
+use Rattle.std.proofs.Common.{rules}
 use mathlib.Core.Path.{◌≡◌, refl, sym, ap, ◌∙◌}
 use Rattle.frame.proofs.Laws.{at_ok, decoded_in_range}
 use Rattle.soundness.specs.Soundness.{Checked}

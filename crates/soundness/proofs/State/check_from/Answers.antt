@@ -1,5 +1,5 @@
-use Rattle.std.specs.Prelude.{Err, length}
-use Rattle.std.proofs.Common.{rules, arith}
+use Rattle.std.specs.Prelude.{Err}
+use Rattle.std.proofs.Common.{rules}
 use mathlib.Core.Path.{◌≡◌, sym, ◌∙◌}
 use Rattle.frame.proofs.Laws.{at_ok, decoded_in_range}
 use Rattle.soundness.proofs.Laws.{check_end, check_refused, check_fail, check_next}
