@@ -155,7 +155,7 @@ enum trace_refusal {
  * buffers must not overlap.
  * Stack: at most TRACE_STACK_CHECK bytes.
  */
-#define TRACE_STACK_CHECK 29184
+#define TRACE_STACK_CHECK 27136
 uint8_t trace_check(const uint8_t *text, size_t text_len, uint8_t *line, size_t line_len);
 
 #ifdef __cplusplus

@@ -28,7 +28,7 @@ extern "C" {
  * (place: lines). A refusal writes nothing.
  * Stack: at most TRACE_STACK_READ bytes.
  */
-#define TRACE_STACK_READ 2560
+#define TRACE_STACK_READ 512
 uint64_t trace_read(const uint8_t *text, size_t text_len, uint32_t *words, size_t words_len);
 
 /*
@@ -37,7 +37,7 @@ uint64_t trace_read(const uint8_t *text, size_t text_len, uint32_t *words, size_
  * 1023 or lock above 63; 12 variable already named.
  * Stack: at most TRACE_STACK_GUARDS bytes.
  */
-#define TRACE_STACK_GUARDS 8704
+#define TRACE_STACK_GUARDS 1536
 uint64_t trace_guards(const uint8_t *list, size_t list_len);
 
 /*
@@ -51,7 +51,7 @@ uint64_t trace_guards(const uint8_t *list, size_t list_len);
  * of the list as well (kind 0x81, 0x8B, 0x8C, frame = line of the list). Only 17 leaves it.
  * Stack: at most TRACE_STACK_DECLARED bytes.
  */
-#define TRACE_STACK_DECLARED 16896
+#define TRACE_STACK_DECLARED 10752
 uint8_t trace_declared(const uint8_t *list, size_t list_len, const uint32_t *words,
                        size_t words_len, uint8_t *line, size_t line_len);
 
@@ -98,7 +98,7 @@ uint64_t trace_equal(const uint32_t *left, size_t left_len, const uint32_t *righ
  * begin); 15 out_len is below words_len (place: words_len). A refusal writes nothing.
  * Stack: at most TRACE_STACK_SERIAL_DECLARED bytes.
  */
-#define TRACE_STACK_SERIAL_DECLARED 12288
+#define TRACE_STACK_SERIAL_DECLARED 11264
 uint64_t trace_serial_declared(const uint8_t *list, size_t list_len, const uint32_t *words,
                                size_t words_len, uint32_t *out, size_t out_len);
 
@@ -107,7 +107,7 @@ uint64_t trace_serial_declared(const uint8_t *list, size_t list_len, const uint3
  * without 1, 11 and 12.
  * Stack: at most TRACE_STACK_SERIAL_INFERRED bytes.
  */
-#define TRACE_STACK_SERIAL_INFERRED 12288
+#define TRACE_STACK_SERIAL_INFERRED 11264
 uint64_t trace_serial_inferred(const uint32_t *words, size_t words_len, uint32_t *out,
                                size_t out_len);
 
@@ -120,7 +120,7 @@ uint64_t trace_serial_inferred(const uint32_t *words, size_t words_len, uint32_t
  * words_len (place: words_len). A refusal writes nothing.
  * Stack: at most TRACE_STACK_MOVES_DECLARED bytes.
  */
-#define TRACE_STACK_MOVES_DECLARED 12288
+#define TRACE_STACK_MOVES_DECLARED 11264
 uint64_t trace_moves_declared(const uint8_t *list, size_t list_len, const uint32_t *words,
                               size_t words_len, int32_t *moves, size_t moves_len);
 
@@ -129,7 +129,7 @@ uint64_t trace_moves_declared(const uint8_t *list, size_t list_len, const uint32
  * trace_moves_declared, without 1, 11 and 12.
  * Stack: at most TRACE_STACK_MOVES_INFERRED bytes.
  */
-#define TRACE_STACK_MOVES_INFERRED 12288
+#define TRACE_STACK_MOVES_INFERRED 11264
 uint64_t trace_moves_inferred(const uint32_t *words, size_t words_len, int32_t *moves,
                               size_t moves_len);
 
@@ -145,7 +145,7 @@ uint64_t trace_moves_inferred(const uint32_t *words, size_t words_len, int32_t *
  * nothing.
  * Stack: at most TRACE_STACK_COMMITS_DECLARED bytes.
  */
-#define TRACE_STACK_COMMITS_DECLARED 7168
+#define TRACE_STACK_COMMITS_DECLARED 2560
 uint64_t trace_commits_declared(const uint8_t *list, size_t list_len, const uint32_t *words,
                                 size_t words_len, uint32_t *commits, size_t commits_len);
 
@@ -154,7 +154,7 @@ uint64_t trace_commits_declared(const uint8_t *list, size_t list_len, const uint
  * trace_commits_declared, without 1, 11 and 12.
  * Stack: at most TRACE_STACK_COMMITS_INFERRED bytes.
  */
-#define TRACE_STACK_COMMITS_INFERRED 7168
+#define TRACE_STACK_COMMITS_INFERRED 2560
 uint64_t trace_commits_inferred(const uint32_t *words, size_t words_len, uint32_t *commits,
                                 size_t commits_len);
 
