@@ -21,7 +21,8 @@ use Rattle.frame.specs.declared.Refusal.TheVariants as refusal
 use Rattle.text.specs.Text.{word_at}
 use Rattle.digits.specs.Digits.{line_of}
 use Rattle.text.proofs.Laws.{Accepted, ends, goes, accepted_length, accepted_line}
-use Rattle.guards.specs.Guards.{GuardsRead, guard_of, guard_variable, guard_lock, lines, stopped, guard_line, on_guard_line, guards_from, no_guards, guards_read, unprotected_code}
+use Rattle.guards.specs.Guards.{guard_of, guard_variable, guard_lock, lines, stopped, guard_line, on_guard_line, guards_from, no_guards, guards_read, unprotected_code}
+use Rattle.guards.specs.declared.GuardsRead.{GuardsRead}
 use Rattle.guards.specs.Listed.{Listed, ListsAreNeverTooLong}
 use Rattle.guards.specs.declared.Guard.TheVariants.{Locked, Unprotected}
 use Rattle.guards.specs.declared.GuardLine.{GuardLine}

@@ -14,7 +14,8 @@ use Rattle.frame.specs.Limits.{most_frames}
 use Rattle.digits.specs.Digits.{line_of}
 use Rattle.text.specs.Text.{word_in, word_at, most_bytes}
 use Rattle.text.proofs.Front.{line_front, end_front}
-use Rattle.guards.specs.Guards.{GuardsRead, guard_variable, lines, guard_line, on_guard_line, guards_from, no_guards}
+use Rattle.guards.specs.Guards.{guard_variable, lines, guard_line, on_guard_line, guards_from, no_guards}
+use Rattle.guards.specs.declared.GuardsRead.{GuardsRead}
 use Rattle.guards.specs.Listed.{Listed, AcceptedIfListed, line_bytes, Rearranged, LineOrderHasNoMeaning, FirstBytesDecideLists}
 use Rattle.guards.proofs.Laws.{guards_listed, guards_accepts, line_order}
 

@@ -16,7 +16,8 @@ use Rattle.frame.specs.Limits.{variable_count, most_frames}
 use Rattle.laws.proofs.Logic.{from_here, never}
 use Rattle.frame.specs.declared.Refused.{Refused}
 use Rattle.text.specs.Text.{word_at}
-use Rattle.guards.specs.Guards.{guard_of, guard_variable, guards_read, listed_guard, unprotected_code, guards_under, GuardsRead}
+use Rattle.guards.specs.Guards.{guard_of, guard_variable, guards_read, listed_guard, unprotected_code, guards_under}
+use Rattle.guards.specs.declared.GuardsRead.{GuardsRead}
 use Rattle.guards.proofs.Laws.{Run, end, over, stop, go_on, whole, table_length, named_guard, unnamed_guard}
 
 module _ (s : List ℕ) (n : ℕ) (e : (guards_read s).reply ≡ Ok n) (x : ℕ) where

@@ -14,6 +14,7 @@ use Rattle.guards.specs.Judgement.{Judgement}
 use Rattle.guards.specs.declared.Guard.{Guard}
 use Rattle.guards.specs.declared.Guard.TheVariants.{Locked, Unprotected, Inferred}
 use Rattle.guards.specs.declared.GuardLine.{GuardLine}
+use Rattle.guards.specs.declared.GuardsRead.{GuardsRead}
 
 -- The codes of a variable that is unprotected, and of one whose guard is inferred; below them, a lock is its own code.
 abbrev pub unprotected_code : ℕ
@@ -33,11 +34,7 @@ guard_variable w = w / 65536
 abbrev pub guard_lock : ℕ → ℕ
 guard_lock w = w % 65536
 
--- What reading a guard list answers: its number of lines or its refusal, and the table that its lines give.
-pub record GuardsRead : Type 0 where
-  pub reply : Result ℕ Refused
-  pub table : List ℕ
-
+-- What reading a guard list answers (`GuardsRead`): its number of lines or its refusal, and the table that its lines give.
 abbrev pub lines : ℕ → List ℕ → GuardsRead
 lines n g = record { reply = Ok n; table = g }
 

@@ -42,6 +42,13 @@ struct GuardLine {
     lock: Lock,
 }
 
+// What reading a guard list answers. Where the list is refused, the table is the one that the lines before give.
+#[derive(Drop)]
+pub struct GuardsRead {
+    pub reply: Result<u32, Refused>,
+    pub table: [u8; VARIABLES],
+}
+
 // The guard that a code of a table stands for.
 pub fn guard_of(code: u8) -> Guard
     ensures { result ≡ guard_of code }
@@ -102,6 +109,15 @@ pub fn read_guards(list: &[u8], table: &mut [u8; VARIABLES]) -> Result<u32, Refu
     }
 }
 
+// The same with nothing lent: the number of lines, and the table by value.
+pub fn read(list: &[u8]) -> GuardsRead
+    ensures { result ≡ guards_read list.now }
+{
+    let mut table = [UNPROTECTED; VARIABLES];
+    let reply = read_guards(list, &mut table);
+    GuardsRead { reply, table }
+}
+
 impl Judgement<'_> {
     // The guards of a judgement: those that its list names, or all inferred. The reply is the number of lines read.
     pub fn guards(self, table: &mut [u8; VARIABLES]) -> Result<u32, Refused>
@@ -115,5 +131,14 @@ impl Judgement<'_> {
                 Ok(0)
             }
         }
+    }
+
+    // The same with nothing lent: the number of lines read, and the table by value.
+    pub fn read(self) -> GuardsRead
+        ensures { result ≡ guards_under (way_of self.entry) (list_of self.entry) }
+    {
+        let mut table = [UNPROTECTED; VARIABLES];
+        let reply = self.guards(&mut table);
+        GuardsRead { reply, table }
     }
 }

@@ -32,6 +32,12 @@ pub record Over (buffer : MutBor (List ℕ)) (text : Text) : Type 0 where
   pub place : text.at ≡ 0
   pub contents : text.buffer.now ≡ buffer.now
 
+-- A text before and after it is moved to place n, where its next byte goes. Nothing is written.
+pub record MovedTo (before after : Text) (n : ℕ) : Type 0 where
+  pub same_buffer : after.buffer.ghost_name ≡ before.buffer.ghost_name
+  pub place : after.at ≡ n
+  pub contents : after.buffer.now ≡ before.buffer.now
+
 -- A text before and after t is written behind it.
 pub record Appended (before after : Text) (t : List ℕ) : Type 0 where
   pub same_buffer : after.buffer.ghost_name ≡ before.buffer.ghost_name

@@ -4,7 +4,7 @@
 
 ghost use Rattle.std.specs.Prelude.{◌≡◌, [], ◌∷◌};
 ghost use Rattle.frame.specs.Limits.{lock_count};
-ghost use Rattle.output.specs.Output.{Over, Appended, decimal, lock_text, listed, locks_text};
+ghost use Rattle.output.specs.Output.{Over, MovedTo, Appended, decimal, lock_text, listed, locks_text};
 
 use frame::{ALL_LOCKS, LOCKS};
 
@@ -29,11 +29,19 @@ impl<'a> Text<'a> {
         Text { buffer, at: 0 }
     }
 
-    // How many bytes of the buffer have text.
+    // The place that the next byte goes to: how many bytes of the buffer have text, where it was not moved.
     pub fn len(&self) -> usize
         ensures { result ≡ self.now.at }
     {
         self.at
+    }
+
+    // The next byte goes to a place of the buffer, before or behind the text; behind the buffer's end none is written.
+    pub fn move_to(&mut self, place: usize)
+        ensures { MovedTo self.old self.new place }
+    {
+        let Text { at, .. } = self;
+        *at = place;
     }
 
     pub fn put_byte(&mut self, byte: u8)
