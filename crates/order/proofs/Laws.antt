@@ -21,7 +21,7 @@ use Rattle.exchange.specs.Exchange.{Exchanges}
 use Rattle.exchange.proofs.Exchange.{exchanges_length}
 use Rattle.serial.specs.Order.{Closed, serial_words}
 use Rattle.serial.specs.Walk.{walk_of}
-use Rattle.displacement.specs.Displacement.{places, ordered_places, displacements}
+use Rattle.displacement.specs.Displacement.{places, ordered_places, displacements, moved}
 use Rattle.displacement.proofs.Places.{places_length, moved_all}
 use Rattle.walk.specs.Laid.{put_word, put_move, laid}
 use Rattle.walk.proofs.Laws.{laid_words, laid_moves}
@@ -89,9 +89,14 @@ module _ (guards ws : List ℕ) (r : ReducibleUnder guards ws) (c : Closed ws) w
       ap (λ (l : List ℕ). laid put_word ws 0 l out) (sym walked)
       ∙ (laid_words guards ws out (omega (arith, long)) ∙ rw (same, order_length guards ws r c))
 
-  moves_ordered : (out : List ℤ) → length ws ≤ length out → laid put_move ws 0 (ordered_places guards ws) out ≡ displacements guards ws ++ drop (length ws) out
+  -- What the walk moves are the displacements.
+  pub walk_moves : (out : List ℤ) → length ws ≤ length out → moved 0 (walk_of guards ws (places ws)) out ≡ displacements guards ws ++ drop (length ws) out
   unfolding displacements
-  moves_ordered out h = laid_moves ws 0 (ordered_places guards ws) out ∙ moved_all ws (ordered_places guards ws) ordered out h
+  walk_moves out h = ap (λ (l : List ℕ). moved 0 l out) walked ∙ moved_all ws (ordered_places guards ws) ordered out h
+
+  moves_ordered : (out : List ℤ) → length ws ≤ length out → laid put_move ws 0 (ordered_places guards ws) out ≡ displacements guards ws ++ drop (length ws) out
+  moves_ordered out h =
+      ap (λ (l : List ℕ). laid put_move ws 0 l out) (sym walked) ∙ (laid_moves ws 0 (walk_of guards ws (places ws)) out ∙ walk_moves out h)
 
 -- What a request leaves, by its reply.
 module _ (short : Refusal) (j : Judgement) (list ws : List ℕ) where

@@ -14,7 +14,7 @@ use walk::Entry;
 // What a request on a recording under a table of guards is answered, with what it writes left out: a lent table has room for a number of
 // entries, and is refused by `short` where these are fewer than the frames.
 #[tactic(auto, unfolding(crate::specs::Order::reply_by, pass::specs::Pass::full_sets))]
-fn check(
+pub fn check(
     words: &[u32],
     guards: &[u8; VARIABLES],
     room: usize,

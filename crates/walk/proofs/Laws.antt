@@ -3,13 +3,14 @@ use Rattle.std.specs.Prelude.{Result, Ok, Err, Option, Some, None}
 use Prim.Native.Nat.{ℕ, ◌+◌, ◌≤◌}
 use mathlib.Core.Path.{◌≡◌, refl, sym, ap, ◌∙◌}
 use mathlib.Core.Bool.{Bool, true, false, cond}
-use mathlib.Core.List.{List, [], ◌∷◌, ◌++◌, map, map-append}
+use mathlib.Core.List.{List, [], ◌∷◌, ◌++◌, map, map-append, append_assoc}
 use native.Mathlib.Omega.{arith}
 use lib.Dec.{eqb}
 use lib.IntN.{ℤ}
-use lib.ListN.{length, get_or, drop, set, length-map}
+use lib.ListN.{length, get_or, take, drop, set, length-map, length-append}
+use lib.Seq.{length-take-le}
 use Rattle.std.proofs.lemmas.List.{drop-map}
-use Rattle.laws.proofs.Written.{Written, written_none, written_one, written_whole, room}
+use Rattle.laws.proofs.Written.{Written, written_none, written_one, written_out, written_whole, room}
 use Rattle.frame.specs.Frame.{decode_word}
 use Rattle.frame.specs.declared.Frame.{Frame}
 use Rattle.frame.specs.declared.Refusal.{Refusal}
@@ -74,6 +75,36 @@ words_put ws [] {out = out} {n = n} w h = let e : n ≡ n + 0 = omega arith in r
 words_put ws (p ∷ ps) {out = out} {n = n} w h =
     let e : n + 1 + length ps ≡ n + length (p ∷ ps) = omega arith in
     rw (← e) (words_put ws ps (written_one w (omega (arith, room w h))) h)
+
+-- Frames whose places are given, put into a table of words from place k on: their words, behind what stands before place k.
+pub laid_words_at : (ws : List ℕ) (k : ℕ) (ps : List ℕ) (out : List ℕ) → k + length ps ≤ length out
+    → laid put_word ws k ps out ≡ take k out ++ (map (word_at ws) ps ++ drop (k + length ps) out)
+laid_words_at ws k ps out h =
+    let first : Written out out k (take k out ++ map (word_at ws) ps) (map (word_at ws) ps) = record { long = refl; within = omega arith; front = refl; behind = refl } in
+    written_out (words_put ws ps first
+    (omega (arith, length-append (take k out) (map (word_at ws) ps), length-take-le k out (omega arith), length-map ps (word_at ws))))
+    ∙ append_assoc (take k out) (map (word_at ws) ps) (drop (k + length ps) out)
+
+-- The unit of thread t that starts at a place, or at a mark (where there is none, no unit does): as long over the places as over the words, and
+-- put into a table of words from place k on, its words.
+module _ (ws : List ℕ) (t : Thread) where
+  start_made : (m : Option ℕ) → map (word_at ws) (unit_in m ws (places ws) t) ≡ unit_in m ws ws t
+  start_made m = map_unit_in (word_at ws) m ws (places ws) t ∙ ap (λ (xs : List ℕ). unit_in m ws xs t) (places_made ws ws refl)
+
+  pub start_length : (m : Option ℕ) → length (unit_in m ws (places ws) t) ≡ length (unit_in m ws ws t)
+  start_length m = sym (length-map (unit_in m ws (places ws) t) (word_at ws)) ∙ ap length (start_made m)
+
+  pub laid_start_words : (m : Option ℕ) (k : ℕ) (out : List ℕ) → k + length (unit_in m ws ws t) ≤ length out
+      → laid put_word ws k (unit_in m ws (places ws) t) out ≡ take k out ++ (unit_in m ws ws t ++ drop (k + length (unit_in m ws ws t)) out)
+  laid_start_words m k out h =
+      laid_words_at ws k (unit_in m ws (places ws) t) out (omega (arith, h, start_length m)) ∙ rw (start_made m, start_length m)
+
+  pub unit_length : (b : ℕ) → length (unit_of ws (places ws) b t) ≡ length (unit_of ws ws b t)
+  unit_length b = start_length (Some b)
+
+  pub laid_unit_words : (b k : ℕ) (out : List ℕ) → k + length (unit_of ws ws b t) ≤ length out
+      → laid put_word ws k (unit_of ws (places ws) b t) out ≡ take k out ++ (unit_of ws ws b t ++ drop (k + length (unit_of ws ws b t)) out)
+  laid_unit_words b = laid_start_words (Some b)
 
 pub walk_length : (guards ws : List ℕ) → length (walk_of guards ws (places ws)) ≡ length (walk_words guards ws)
 walk_length guards ws = sym (length-map (walk_of guards ws (places ws)) (word_at ws)) ∙ ap length (walk_made guards ws)
