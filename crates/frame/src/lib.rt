@@ -4,7 +4,7 @@
 #![tactic(auto)]
 
 ghost use Rattle.std.specs.Prelude.{◌≡◌, ◌≤◌, ◌<◌, true, length};
-ghost use Rattle.frame.specs.Frame.{object_fits, action_of, decode_word, frame_at, split_word, encode_frame, word_of};
+ghost use Rattle.frame.specs.Frame.{decode_word, frame_at, split_word, encode_frame, word_of};
 ghost use Rattle.frame.specs.Refusal.{refusal_number, refused_at, refusal_named};
 
 // The limits of a recording: its threads, locks, variables and frames, the blocks that a thread may have open, and how often it may hold a
@@ -124,47 +124,8 @@ pub fn split_word(word: u32) -> Option<Parts>
     })
 }
 
-// Whether an object is one that an operation can have.
-fn object_fits(op: u32, object: u32) -> bool
-    ensures { result ≡ object_fits op object }
-{
-    if op <= 2 {
-        object < LOCK_END
-    } else if op <= 4 {
-        object < VARIABLE_END
-    } else {
-        object == 0
-    }
-}
-
-// The action of an operation 1 to 6 with its object. By tests two by two: a `match` on the operation is slower.
-fn action_of(op: u32, object: u32) -> Action
-    requires low { 1 ≤ op }
-    requires fits { object_fits op object ≡ true }
-    ensures { result ≡ action_of op object }
-{
-    if op <= 2 {
-        let lock = Lock(object as u8);
-        if op == 1 {
-            Action::Acquire(lock)
-        } else {
-            Action::Release(lock)
-        }
-    } else if op <= 4 {
-        let variable = Variable(object as u16);
-        if op == 3 {
-            Action::Read(variable)
-        } else {
-            Action::Write(variable)
-        }
-    } else if op == 5 {
-        Action::Begin
-    } else {
-        Action::End
-    }
-}
-
-// The frame of a word, or why it is none.
+// The frame of a word, or why it is none. Each operation has an arm and an answer of its own, so that a pass over frames goes on in its arm
+// for the operation without another jump.
 impl TryFrom<u32> for Frame {
     type Error = Refusal;
 
@@ -180,12 +141,51 @@ impl TryFrom<u32> for Frame {
         if THREAD_END <= thread {
             return Err(Refusal::Thread);
         }
-        if !object_fits(op, object) {
+        let thread = Thread(thread as u8);
+        if op <= 2 {
+            if LOCK_END <= object {
+                return Err(Refusal::Object);
+            }
+            let lock = Lock(object as u8);
+            if op == 1 {
+                return Ok(Frame {
+                    thread,
+                    action: Action::Acquire(lock),
+                });
+            }
+            return Ok(Frame {
+                thread,
+                action: Action::Release(lock),
+            });
+        }
+        if op <= 4 {
+            if VARIABLE_END <= object {
+                return Err(Refusal::Object);
+            }
+            let variable = Variable(object as u16);
+            if op == 3 {
+                return Ok(Frame {
+                    thread,
+                    action: Action::Read(variable),
+                });
+            }
+            return Ok(Frame {
+                thread,
+                action: Action::Write(variable),
+            });
+        }
+        if object != 0 {
             return Err(Refusal::Object);
         }
+        if op == 5 {
+            return Ok(Frame {
+                thread,
+                action: Action::Begin,
+            });
+        }
         Ok(Frame {
-            thread: Thread(thread as u8),
-            action: action_of(op, object),
+            thread,
+            action: Action::End,
         })
     }
 }

@@ -11,9 +11,37 @@ pub returns-then-thread-ge-THREAD_END : goal.returns-then-thread-ge-THREAD_END
 unfolding decode_parts
 returns-then-thread-ge-THREAD_END c = search (rules, tests)
 
-pub returns-then-not-object_fits : goal.returns-then-not-object_fits
+pub returns-then-object-ge-LOCK_END : goal.returns-then-object-ge-LOCK_END
 unfolding decode_parts
-returns-then-not-object_fits c = search (rules, tests)
+returns-then-object-ge-LOCK_END c = search (rules, tests)
+
+pub returns-then-op-eq1 : goal.returns-then-op-eq1
+unfolding decode_parts
+returns-then-op-eq1 c = search (rules, tests)
+
+pub returns-then-op-le2 : goal.returns-then-op-le2
+unfolding decode_parts
+returns-then-op-le2 c = search (rules, tests)
+
+pub returns-then-object-ge-VARIABLE_END : goal.returns-then-object-ge-VARIABLE_END
+unfolding decode_parts
+returns-then-object-ge-VARIABLE_END c = search (rules, tests)
+
+pub returns-then-op-eq3 : goal.returns-then-op-eq3
+unfolding decode_parts
+returns-then-op-eq3 c = search (rules, tests)
+
+pub returns-then-op-le4 : goal.returns-then-op-le4
+unfolding decode_parts
+returns-then-op-le4 c = search (rules, tests)
+
+pub returns-then-object-ne0 : goal.returns-then-object-ne0
+unfolding decode_parts
+returns-then-object-ne0 c = search (rules, tests)
+
+pub returns-then-op-eq5 : goal.returns-then-op-eq5
+unfolding decode_parts
+returns-then-op-eq5 c = search (rules, tests)
 
 pub returns : goal.returns
 unfolding decode_parts
