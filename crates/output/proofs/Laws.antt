@@ -10,7 +10,7 @@ use borrow.Author.Tests.{lt-ltb, le-ltb, ne_eqb}
 use Rattle.laws.proofs.Lists.{drop_stored}
 use Rattle.std.specs.Borrow.{MutBor}
 use Rattle.output.specs.declared.Text.{Text}
-use Rattle.output.specs.Output.{after, behind, written, Over, Appended, decimal_digits}
+use Rattle.output.specs.Output.{after, behind, written, Over, MovedTo, Appended, decimal_digits}
 
 pub after_room : (n at : ℕ) → at < n → after n at ≡ at + 1
 unfolding after
@@ -57,6 +57,11 @@ pub record Put (b : List ℕ) (t : List ℕ) (b' : List ℕ) (n : ℕ) : Type 0 
 
 pub put_over : {b : MutBor (List ℕ)} {empty text : Text} {t : List ℕ} → Over b empty → Appended empty text t → Put b.now t text.buffer.now text.at
 put_over o x = record { place = x.place ∙ rw (o.contents, o.place) refl; contents = x.contents ∙ rw (o.contents, o.place) refl }
+
+-- what stands in a lent buffer that a text is written to from place n on
+pub put_moved : {b : MutBor (List ℕ)} {empty moved text : Text} {n : ℕ} {t : List ℕ} → Over b empty → MovedTo empty moved n → Appended moved text t
+    → text.buffer.now ≡ written b.now n t
+put_moved o m x = x.contents ∙ rw (m.contents, o.contents, m.place) refl
 
 -- one more digit stored in front of those stored before
 pub digit_stored : (d : List ℕ) (j v : ℕ) → j < length d → 0 < v
